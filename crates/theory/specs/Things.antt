@@ -1,0 +1,71 @@
+-- What numbered rows mean: each a tree, a substitution or a context, or nothing.
+use Rattle.std.specs.Prelude.{◌≡◌, ℕ, List, [], ◌∷◌, Option, Some, None}
+use Rattle.theory.specs.declared.op.Op.{Op}
+use Rattle.theory.specs.Trees.{Tree, Subst, Make, trees_of, apply, push, then}
+use Rattle.theory.specs.Judgements.{Context, WithVar, WithName, WithFace}
+
+pub data Thing : Type 0 where
+  ATree : Tree → Thing
+  ASubst : Subst → Thing
+  AContext : Context → Thing
+
+-- what each number means, where it means something
+abbrev pub Meanings : Type 0
+Meanings = ℕ → Option Thing
+
+-- what a number means it goes on to mean
+pub record Kept (old new : Meanings) : Type 0 where
+  pub keeps : (k : ℕ) (x : Thing) → old k ≡ Some x → new k ≡ Some x
+
+-- both, where both are there
+abbrev pub both : {A B C : Type 0} → (A → B → Option C) → Option A → Option B → Option C
+both f None y = None
+both f (Some a) None = None
+both f (Some a) (Some b) = f a b
+
+abbrev pub one : {A B : Type 0} → (A → Option B) → Option A → Option B
+one f None = None
+one f (Some a) = f a
+
+abbrev pub listed : {A : Type 0} → A → List A → Option (List A)
+listed a as' = Some (a ∷ as')
+
+-- what all the numbers mean, where each means something
+abbrev pub meanings : Meanings → List ℕ → Option (List Thing)
+meanings f [] = Some []
+meanings f (k ∷ ks) = both listed (f k) (meanings f ks)
+
+-- the trees among them, where all are trees
+abbrev pub only_trees : List Thing → Option (List Tree)
+only_trees [] = Some []
+only_trees (ATree t ∷ xs) = one (λ ts. Some (t ∷ ts)) (only_trees xs)
+only_trees (ASubst d ∷ xs) = None
+only_trees (AContext G ∷ xs) = None
+
+-- the operator over trees
+abbrev pub made : Op → List Thing → Option Thing
+made op xs = one (λ ts. Some (ATree (Make op (trees_of ts)))) (only_trees xs)
+
+abbrev pub instance_of : Thing → Thing → Option Thing
+instance_of (ATree t) (ASubst d) = Some (ATree (apply t d))
+instance_of _ _ = None
+
+abbrev pub pushed_on : Thing → Thing → Option Thing
+pushed_on (ASubst d) (ATree t) = Some (ASubst (push d t))
+pushed_on _ _ = None
+
+abbrev pub then_of : Thing → Thing → Option Thing
+then_of (ASubst d) (ASubst e) = Some (ASubst (then d e))
+then_of _ _ = None
+
+abbrev pub with_variable : Thing → Thing → Option Thing
+with_variable (AContext G) (ATree t) = Some (AContext (WithVar G t))
+with_variable _ _ = None
+
+abbrev pub with_a_name : Thing → Option Thing
+with_a_name (AContext G) = Some (AContext (WithName G))
+with_a_name _ = None
+
+abbrev pub with_a_face : Thing → Thing → Option Thing
+with_a_face (AContext G) (ATree t) = Some (AContext (WithFace G t))
+with_a_face _ _ = None
