@@ -1,1 +1,1 @@
-pub mod OperatorTable
+pub mod Tables

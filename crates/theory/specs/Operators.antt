@@ -1,5 +1,5 @@
 -- The table of operators: their names, the number of their kids, and how many variables or names each kid binds.
-use Rattle.std.specs.Prelude.{ℕ, zero, suc, List, codes}
+use Rattle.std.specs.Prelude.{ℕ, zero, suc, List, codes, Bool, false, nat_le, ◌≡◌, IsTrue}
 use Rattle.theory.specs.declared.op.Op.{Op}
 use Rattle.theory.specs.declared.op.Op.TheVariants.{I0, I1, Neg, Min, Max, F0, F1, Eq0, Eq1, Meet, Join, All, U, Pi, Lam, App, Sig, Pair, Fst, Snd, PathP, PLam, PApp, Nat, Zero, Suc, NatRec, Sys, Empty, Comp, GlueType, Glue, Unglue}
 
@@ -97,3 +97,16 @@ name_of Comp = codes "comp"
 name_of GlueType = codes "Glue"
 name_of Glue = codes "glue"
 name_of Unglue = codes "unglue"
+
+-- Which operators files of a version may name. These are the ones of the rules that are built so far; each further
+-- operator is a line.
+abbrev pub has_operator : ℕ → Op → Bool
+has_operator version U = nat_le 1 version
+has_operator version Nat = nat_le 1 version
+has_operator version Zero = nat_le 1 version
+has_operator version Suc = nat_le 1 version
+has_operator version _ = false
+
+-- the operator has that name, and files of the version may name it
+abbrev pub IsOperator : ℕ → List ℕ → Op → Type 0
+IsOperator version name op = (name ≡ name_of op) × IsTrue (has_operator version op)

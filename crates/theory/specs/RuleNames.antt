@@ -1,6 +1,6 @@
 -- The names of the rules, the kinds of their parts, the number of their premises, and the version from which on each
 -- stands in files.
-use Rattle.std.specs.Prelude.{ℕ, List, [], ◌∷◌, codes}
+use Rattle.std.specs.Prelude.{ℕ, List, [], ◌∷◌, codes, ◌≡◌, ◌≤◌}
 use Rattle.theory.specs.declared.rule.PartKind.{PartKind}
 use Rattle.theory.specs.declared.rule.PartKind.TheVariants.{Context, Term}
 use Rattle.theory.specs.declared.rule.ContextRule.TheVariants.{CtxNil}
@@ -35,3 +35,7 @@ abbrev pub first_version : RuleName → ℕ
 first_version (Contexts rule) = 1
 first_version (Universe rule) = 1
 first_version (Naturals rule) = 1
+
+-- the rule has that name, and files of the version may name it
+abbrev pub IsRule : ℕ → List ℕ → RuleName → Type 0
+IsRule version name rule = (name ≡ name_of rule) × (first_version rule ≤ version)

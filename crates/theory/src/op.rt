@@ -1,8 +1,8 @@
 //! The operators of trees.
 
-ghost use Rattle.std.specs.Prelude.{◌≡◌, ◌≢◌, ◌<◌, IfSome, IfNone};
+ghost use Rattle.std.specs.Prelude.{◌≡◌, ◌<◌, IfSome, IfNone};
 ghost use Rattle.std.specs.List.{All};
-ghost use Rattle.theory.specs.Operators.{kids_of, binds_of, name_of};
+ghost use Rattle.theory.specs.Operators.{kids_of, binds_of, name_of, has_operator, IsOperator};
 ghost use Rattle.theory.specs.declared.op.Op.{Op};
 
 /// An operator. A tree is a variable or an operator with its kids.
@@ -151,23 +151,33 @@ pub fn op_name(op: Op) -> &'static str
     }
 }
 
-/// The first of these operators that has the name.
-fn first_named(operators: &[Op], name: &[u8]) -> Option<Op>
-    ensures some { IfSome result (λ op. name.now ≡ name_of op) }
-    ensures none { IfNone result (All (λ op. name.now ≢ name_of op) operators.now) }
+/// Whether a version of the rules has the operator, as far as its tables are built.
+fn has_operator(version: u32, op: Op) -> bool
+    ensures { result ≡ has_operator version op }
+{
+    match op {
+        Op::U | Op::Nat | Op::Zero | Op::Suc => version >= 1,
+        _ => false,
+    }
+}
+
+/// The first of these operators that has the name and stands in the version.
+fn first_named(operators: &[Op], name: &[u8], version: u32) -> Option<Op>
+    ensures some { IfSome result (IsOperator version name.now) }
+    ensures none { IfNone result (All (λ op. IsOperator version name.now op → ⊥) operators.now) }
 {
     for op in operators {
-        if name == op_name(*op).as_bytes() {
+        if name == op_name(*op).as_bytes() && has_operator(version, *op) {
             return Some(*op);
         }
     }
     None
 }
 
-/// The operator of this name, if any.
-pub fn op_of(name: &[u8]) -> Option<Op>
-    ensures some { IfSome result (λ op. name.now ≡ name_of op) }
-    ensures none { IfNone result ((op : Op) → name.now ≢ name_of op) }
+/// The operator of this name in a version of the rules, if any.
+pub fn op_of(name: &[u8], version: u32) -> Option<Op>
+    ensures some { IfSome result (IsOperator version name.now) }
+    ensures none { IfNone result ((op : Op) → IsOperator version name.now op → ⊥) }
 {
-    first_named(OPERATORS, name)
+    first_named(OPERATORS, name, version)
 }

@@ -1,8 +1,8 @@
 //! The names of the rules, and how many parts and premises each has.
 
-ghost use Rattle.std.specs.Prelude.{◌≡◌, ◌≢◌, ◌<◌, ◌≤◌, IfSome, IfNone, length, slice_get, Some};
+ghost use Rattle.std.specs.Prelude.{◌≡◌, ◌<◌, ◌≤◌, IfSome, IfNone, length, slice_get, Some};
 ghost use Rattle.std.specs.List.{All};
-ghost use Rattle.theory.specs.RuleNames.{kinds_of, premises_of, name_of, first_version};
+ghost use Rattle.theory.specs.RuleNames.{kinds_of, premises_of, name_of, first_version, IsRule};
 ghost use Rattle.theory.specs.declared.rule.RuleName.{RuleName};
 
 /// What a part of a rule is.
@@ -114,13 +114,13 @@ fn first_version(rule: RuleName) -> u32
     }
 }
 
-/// The first of these rules that has the name.
-fn first_named(rules: &[RuleName], name: &[u8]) -> Option<RuleName>
-    ensures some { IfSome result (λ rule. name.now ≡ name_of rule) }
-    ensures none { IfNone result (All (λ rule. name.now ≢ name_of rule) rules.now) }
+/// The first of these rules that has the name and stands in the version.
+fn first_named(rules: &[RuleName], name: &[u8], version: u32) -> Option<RuleName>
+    ensures some { IfSome result (IsRule version name.now) }
+    ensures none { IfNone result (All (λ rule. IsRule version name.now rule → ⊥) rules.now) }
 {
     for rule in rules {
-        if name == rule_name(*rule).as_bytes() {
+        if name == rule_name(*rule).as_bytes() && first_version(*rule) <= version {
             return Some(*rule);
         }
     }
@@ -129,12 +129,8 @@ fn first_named(rules: &[RuleName], name: &[u8]) -> Option<RuleName>
 
 /// The rule of this name in a version of the rules, if any.
 pub fn rule_of(name: &[u8], version: u32) -> Option<RuleName>
-    ensures some { IfSome result (λ rule. (name.now ≡ name_of rule) × (first_version rule ≤ version)) }
-    ensures none { IfNone result ((rule : RuleName) → name.now ≡ name_of rule → first_version rule ≤ version → ⊥) }
+    ensures some { IfSome result (IsRule version name.now) }
+    ensures none { IfNone result ((rule : RuleName) → IsRule version name.now rule → ⊥) }
 {
-    let rule = first_named(RULES, name)?;
-    if first_version(rule) <= version {
-        return Some(rule);
-    }
-    None
+    first_named(RULES, name, version)
 }

@@ -1,8 +1,8 @@
-use Rattle.std.proofs.Common.{◌≢◌, take}
+use Rattle.std.proofs.Common.{take}
 use Rattle.std.specs.List.{All}
-use Rattle.theory.specs.Operators.{name_of}
+use Rattle.theory.specs.Operators.{IsOperator}
 use Rattle.theory.proofs.op.first_named.Given as goal
 
--- none of the operators so far has the name
+-- none of those so far
 abbrev pub invariant-loop-op : goal.invariant-loop-op
-invariant-loop-op l = All (λ op. l.name ≢ name_of op) (take l.op-index l.operators)
+invariant-loop-op l = All (λ op. IsOperator l.version l.name op → ⊥) (take l.op-index l.operators)
