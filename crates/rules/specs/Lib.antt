@@ -1,0 +1,5 @@
+pub mod Table
+pub mod Rules
+pub mod Run
+pub mod Schemas
+pub mod Claims

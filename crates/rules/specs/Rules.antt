@@ -1,0 +1,32 @@
+-- The rules at trees: what the table means.
+use Rattle.std.specs.Prelude.{List, [], ◌∷◌, Option, Some, None}
+use Rattle.theory.specs.declared.rule.PartKind.{PartKind}
+use Rattle.theory.specs.declared.rule.PartKind.TheVariants as part
+use Rattle.theory.specs.declared.rule.RuleName.{RuleName}
+use Rattle.theory.specs.Trees.{Tree, Subst}
+use Rattle.theory.specs.Judgements.{Context, trees, TreeRule}
+use Rattle.theory.specs.Things.{Thing, ATree, ASubst, AContext}
+use Rattle.theory.specs.RuleNames.{kinds_of}
+use Rattle.rules.specs.Table.{Over, rule}
+
+abbrev pub tree_rule : (name : RuleName) → Over trees (kinds_of name)
+tree_rule = rule trees
+
+-- a rule at these parts, where they have its kinds
+abbrev pub over_parts : (kinds : List PartKind) → Over trees kinds → List Thing → Option TreeRule
+over_parts [] r [] = Some r
+over_parts (part.Context ∷ kinds) f (AContext G ∷ xs) = over_parts kinds (f G) xs
+over_parts (part.Subst ∷ kinds) f (ASubst d ∷ xs) = over_parts kinds (f d) xs
+over_parts (part.Term ∷ kinds) f (ATree t ∷ xs) = over_parts kinds (f t) xs
+over_parts _ _ _ = None
+
+-- the rule of the table at these parts, where they have its kinds
+unfoldable pub rule_at : RuleName → List Thing → Option TreeRule
+rule_at name parts = over_parts (kinds_of name) (tree_rule name) parts
+
+-- P holds of all parts of these kinds and of the rule at them
+abbrev pub AtAllParts : (kinds : List PartKind) → Over trees kinds → (List Thing → TreeRule → Type 0) → Type 0
+AtAllParts [] r P = P [] r
+AtAllParts (part.Context ∷ kinds) r P = (G : Context) → AtAllParts kinds (r G) (λ xs y. P (AContext G ∷ xs) y)
+AtAllParts (part.Subst ∷ kinds) r P = (d : Subst) → AtAllParts kinds (r d) (λ xs y. P (ASubst d ∷ xs) y)
+AtAllParts (part.Term ∷ kinds) r P = (t : Tree) → AtAllParts kinds (r t) (λ xs y. P (ATree t ∷ xs) y)

@@ -1,0 +1,66 @@
+//! A short stack of rows, held in place.
+
+ghost use Rattle.std.specs.Prelude.{◌≡◌, ◌<◌, ◌≤◌, ℕ, List, [], ◌∷◌, length, take, drop};
+
+use std::marker::Model;
+
+/// How many rows a stack holds at most, and how many steps a program has at most.
+pub const MOST: usize = 16;
+
+/// A stack of at most `MOST` rows. Contracts see the list of them, the last pushed first.
+#[derive(Drop)]
+pub struct Stack {
+    cells: [u64; MOST],
+    top: usize,
+}
+
+impl Model for Stack {
+    ghost Value = { List ℕ };
+
+    ghost view = { λ s. drop s.top s.cells };
+
+    ghost invariant = { λ s. s.top ≤ 16 };
+}
+
+impl Stack {
+    pub fn new() -> Self
+        ensures { result ≡ [] }
+    {
+        Stack {
+            cells: [0; MOST],
+            top: MOST,
+        }
+    }
+
+    pub fn push(&mut self, row: u64)
+        requires { length self.old < 16 }
+        ensures { self.new ≡ row ∷ self.old }
+    {
+        self.top -= 1;
+        self.cells[self.top] = row;
+    }
+
+    pub fn pop(&mut self) -> u64
+        requires { 0 < length self.old }
+        ensures { self.old ≡ result ∷ self.new }
+    {
+        let row = self.cells[self.top];
+        self.top += 1;
+        row
+    }
+
+    /// The first rows of the stack.
+    pub fn first(&self, count: usize) -> &[u64]
+        requires { count ≤ length self.now }
+        ensures { result.now ≡ take count self.now }
+    {
+        &self.cells[self.top..self.top + count]
+    }
+
+    pub fn remove(&mut self, count: usize)
+        requires { count ≤ length self.old }
+        ensures { self.new ≡ drop count self.old }
+    {
+        self.top += count;
+    }
+}
