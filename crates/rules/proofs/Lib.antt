@@ -1,3 +1,4 @@
 pub mod Stacks
 pub mod Runs
 pub mod Readings
+pub mod TableLaws

@@ -19,12 +19,12 @@ use Rattle.rules.specs.declared.program.Test.{Test}
 use Rattle.rules.specs.declared.program.Schema.{Schema}
 
 -- what holds of all parts holds where the rule stands
-record AtParts (kinds : List PartKind) (r : Over trees kinds) (P : List Thing → TreeRule → Type 0) (xs : List Thing) : Type 0 where
+pub record AtParts (kinds : List PartKind) (r : Over trees kinds) (P : List Thing → TreeRule → Type 0) (xs : List Thing) : Type 0 where
   pub rule : TreeRule
   pub is : over_parts kinds r xs ≡ Some rule
   pub holds : P xs rule
 
-at_parts : (kinds : List PartKind) (r : Over trees kinds) (P : List Thing → TreeRule → Type 0) → AtAllParts kinds r P → (xs : List Thing) → IsSome (over_parts kinds r xs) → AtParts kinds r P xs
+pub at_parts : (kinds : List PartKind) (r : Over trees kinds) (P : List Thing → TreeRule → Type 0) → AtAllParts kinds r P → (xs : List Thing) → IsSome (over_parts kinds r xs) → AtParts kinds r P xs
 at_parts [] r P h [] s = record { rule = r; is = refl; holds = h }
 at_parts [] r P h (x ∷ xs) s = cc
 at_parts (part.Context ∷ kinds) r P h [] s = cc

@@ -1,11 +1,10 @@
 -- What claims and side tests mean, and what a rule at given parts wants, asks and gives.
 use Rattle.std.specs.Prelude.{ℕ, List, [], ◌∷◌, Option, Some, None, slice_get, length}
 use Rattle.theory.specs.declared.claim.Claim.{Claim}
-use Rattle.theory.specs.declared.claim.Claim.TheVariants.{Ctx, Ty, TyEq, Tm, TmEq, Sb}
 use Rattle.theory.specs.declared.rule.RuleName.{RuleName}
 use Rattle.theory.specs.Judgements.{Judgement, SideCondition, TreeRule}
+use Rattle.theory.specs.Claims.{form_of, rows_of}
 use Rattle.theory.specs.Things.{Thing, Meanings, meanings, one}
-use Rattle.rules.specs.declared.program.Form.TheVariants as form
 use Rattle.rules.specs.declared.program.TestForm.TheVariants as test
 use Rattle.rules.specs.declared.as_rows.SideTest.{SideTest}
 use Rattle.rules.specs.declared.as_rows.SideTest.TheVariants.{IsFormula, IsFace, Holds, Alike}
@@ -14,12 +13,7 @@ use Rattle.rules.specs.Schemas.{said, tested}
 
 -- the judgement that a claim is, where its rows mean things of the right kinds
 abbrev pub claimed : Meanings → Claim → Option Judgement
-claimed f (Ctx G) = said form.Ctx (meanings f (G ∷ []))
-claimed f (Ty G A) = said form.Ty (meanings f (G ∷ A ∷ []))
-claimed f (TyEq G A B) = said form.TyEq (meanings f (G ∷ A ∷ B ∷ []))
-claimed f (Tm G a A) = said form.Tm (meanings f (G ∷ a ∷ A ∷ []))
-claimed f (TmEq G a b A) = said form.TmEq (meanings f (G ∷ a ∷ b ∷ A ∷ []))
-claimed f (Sb H d G) = said form.Sb (meanings f (H ∷ d ∷ G ∷ []))
+claimed f claim = said (form_of claim) (meanings f (rows_of claim))
 
 -- the side condition that a test asks for
 abbrev pub asked : Meanings → SideTest → Option SideCondition

@@ -9,8 +9,8 @@ use Rattle.theory.specs.Things.{Thing, ATree, ASubst, AContext, one}
 use Rattle.rules.specs.Rules.{tree_rule, AtAllParts}
 use Rattle.rules.specs.Run.{run}
 use Rattle.rules.specs.declared.program.Step.{Step}
-use Rattle.rules.specs.declared.program.Form.{Form}
-use Rattle.rules.specs.declared.program.Form.TheVariants as form
+use Rattle.theory.specs.declared.claim.Form.{Form}
+use Rattle.theory.specs.declared.claim.Form.TheVariants as form
 use Rattle.rules.specs.declared.program.TestForm.{TestForm}
 use Rattle.rules.specs.declared.program.TestForm.TheVariants as test
 use Rattle.rules.specs.declared.program.Program.{Program}

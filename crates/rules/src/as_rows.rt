@@ -9,10 +9,10 @@ ghost use Rattle.rules.specs.Claims.{claimed, asked, rule_over, premise_at, side
 
 use crate::evaluate::evaluate;
 use crate::maker::Maker;
-use crate::program::{Form, Program, Test, TestForm};
+use crate::program::{Program, Test, TestForm};
 use crate::table::schema_of;
 use std::alloc::AllocError;
-use theory::{Claim, RuleName};
+use theory::{Claim, Form, RuleName};
 
 /// A side condition whose context, trees and substitutions are named by the numbers of their rows.
 #[derive(Clone, Copy, Debug, PartialEq, Eq)]

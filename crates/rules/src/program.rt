@@ -1,6 +1,6 @@
 //! Programs that make the rows of a judgement from those of a rule's parts.
 
-use theory::Op;
+use theory::{Form, Op};
 
 /// A step of a program. A program is a judgement's rows in prefix notation, and is run from its end.
 #[derive(Clone, Copy, Debug)]
@@ -11,17 +11,6 @@ pub enum Step {
     Make(Op),
     /// The empty context.
     CtxNil,
-}
-
-/// The form of a judgement.
-#[derive(Clone, Copy, Debug, PartialEq, Eq)]
-pub enum Form {
-    Ctx,
-    Ty,
-    TyEq,
-    Tm,
-    TmEq,
-    Sb,
 }
 
 /// A judgement of that form over the rows that the steps make, in order.

@@ -4,8 +4,8 @@ ghost use Rattle.rules.specs.Schemas.{Means};
 ghost use Rattle.theory.specs.declared.rule.RuleName.TheVariants.{Contexts, Universe, Naturals};
 
 use crate::program::Step::{CtxNil, Make, Part};
-use crate::program::{Form, Program, Schema};
-use theory::{ContextRule, NatRule, Op, RuleName, UniverseRule};
+use crate::program::{Program, Schema};
+use theory::{ContextRule, Form, NatRule, Op, RuleName, UniverseRule};
 
 fn context_schema(rule: ContextRule) -> Schema
     ensures { Means (Contexts rule) result }

@@ -4,3 +4,4 @@ pub mod Trees
 pub mod Language
 pub mod Judgements
 pub mod Things
+pub mod Claims

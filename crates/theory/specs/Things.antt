@@ -1,6 +1,8 @@
 -- What numbered rows mean: each a tree, a substitution or a context, or nothing.
 use Rattle.std.specs.Prelude.{◌≡◌, ℕ, List, [], ◌∷◌, Option, Some, None}
 use Rattle.theory.specs.declared.op.Op.{Op}
+use Rattle.theory.specs.declared.rule.PartKind.{PartKind}
+use Rattle.theory.specs.declared.rule.PartKind.TheVariants as part
 use Rattle.theory.specs.Trees.{Tree, Subst, Make, trees_of, apply, push, then}
 use Rattle.theory.specs.Judgements.{Context, WithVar, WithName, WithFace}
 
@@ -8,6 +10,11 @@ pub data Thing : Type 0 where
   ATree : Tree → Thing
   ASubst : Subst → Thing
   AContext : Context → Thing
+
+abbrev pub kind_of : Thing → PartKind
+kind_of (ATree t) = part.Term
+kind_of (ASubst d) = part.Subst
+kind_of (AContext G) = part.Context
 
 -- what each number means, where it means something
 abbrev pub Meanings : Type 0
@@ -31,7 +38,7 @@ abbrev pub listed : {A : Type 0} → A → List A → Option (List A)
 listed a as' = Some (a ∷ as')
 
 -- what all the numbers mean, where each means something
-abbrev pub meanings : Meanings → List ℕ → Option (List Thing)
+abbrev pub meanings : {A : Type 0} → (ℕ → Option A) → List ℕ → Option (List A)
 meanings f [] = Some []
 meanings f (k ∷ ks) = both listed (f k) (meanings f ks)
 

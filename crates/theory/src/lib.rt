@@ -8,7 +8,7 @@ mod claim;
 mod op;
 mod rule;
 
-pub use claim::Claim;
+pub use claim::{Claim, ClaimRows, Form};
 pub use op::{Op, binds, kid_count, op_name, op_of};
 pub use rule::{
     ContextRule, NatRule, PartKind, RuleName, UniverseRule, count_parts, count_premises, part_kind,

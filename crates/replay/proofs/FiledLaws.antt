@@ -1,0 +1,136 @@
+-- What the entries of a file mean, place by place, and when the store grows.
+use Rattle.std.proofs.Common.{◌≡◌, ℕ, zero, suc, ◌+◌, ◌<◌, ◌≤◌, List, [], ◌∷◌, ◌++◌, length, take, get_or, refl, sym, ◌∙◌, ap, arith, Option, Some, None, IsSome, Bool, true, false, ◌&&◌, map}
+use Rattle.std.specs.Prelude.{slice_get, is_some, unwrap_or}
+use Rattle.std.specs.List.{list_all}
+use Rattle.std.proofs.lemmas.List.Sums.{AllPass-from_list_all}
+use Rattle.std.proofs.lemmas.Option.{slice_get_within}
+use Rattle.theory.specs.declared.claim.Claim.{Claim}
+use Rattle.theory.specs.Judgements.{Judgement}
+use Rattle.theory.specs.Claims.{form_of, rows_of}
+use Rattle.theory.specs.Things.{Thing, Meanings, Kept, one, meanings}
+use Rattle.theory.proofs.Meanings.{meanings-kept}
+use Rattle.rules.specs.Schemas.{said}
+use Rattle.rules.specs.Claims.{claimed}
+use Rattle.derivation.specs.Meanings.{Meaning, Means, Concludes, Nothing, thing_of, conclusion_of, thing_at, conclusion_at}
+use Rattle.replay.specs.declared.entry.Entry.{Entry}
+use Rattle.replay.specs.declared.entry.Entry.TheVariants as entry
+use Rattle.replay.specs.Filed.{entry_meaning, filed, AllFiled}
+
+abbrev meaning_of : List Thing → Entry → Meaning
+meaning_of xs e = unwrap_or (entry_meaning xs e) Nothing
+
+pub filed-at : (xs : List Thing) (es : List Entry) (k : ℕ) (d : Entry) → k < length es → slice_get (filed xs es) k ≡ Some (unwrap_or (entry_meaning xs (get_or es k d)) Nothing)
+filed-at xs [] k d lt = absurd (omega arith)
+filed-at xs (e ∷ es) zero d lt = refl
+filed-at xs (e ∷ es) (suc k) d lt = filed-at xs es k d (omega arith)
+
+-- what stands at a place, by the kind of its entry
+
+pub record Stands (xs : List Thing) (es : List Entry) (k : ℕ) (thing : Option Thing) (conclusion : Option Judgement) : Type 0 where
+  pub thing_is : thing_at (filed xs es) k ≡ thing
+  pub conclusion_is : conclusion_at (filed xs es) k ≡ conclusion
+
+thing_there : (o : Option Thing) → (one thing_of (Some (unwrap_or (one (λ x. Some (Means x)) o) Nothing)) ≡ o) × (one conclusion_of (Some (unwrap_or (one (λ x. Some (Means x)) o) Nothing)) ≡ None)
+thing_there None = (refl, refl)
+thing_there (Some x) = (refl, refl)
+
+node_there : (o : Option Judgement) → (one thing_of (Some (unwrap_or (one (λ J. Some (Concludes J)) o) Nothing)) ≡ None) × (one conclusion_of (Some (unwrap_or (one (λ J. Some (Concludes J)) o) Nothing)) ≡ o)
+node_there None = (refl, refl)
+node_there (Some J) = (refl, refl)
+
+pub at_thing : (xs : List Thing) (es : List Entry) (k row : ℕ) (d : Entry) → k < length es → get_or es k d ≡ entry.Thing row → Stands xs es k (slice_get xs row) None
+at_thing xs es k row d lt e =
+    let f = filed-at xs es k d lt ∙ ap (λ v. Some (meaning_of xs v)) e in
+    let t = thing_there (slice_get xs row) in
+    record { thing_is = ap (one thing_of) f ∙ t.0; conclusion_is = ap (one conclusion_of) f ∙ t.1 }
+
+pub at_node : (xs : List Thing) (es : List Entry) (k : ℕ) (claim : Claim) (d : Entry) → k < length es → get_or es k d ≡ entry.Node claim → Stands xs es k None (claimed (slice_get xs) claim)
+at_node xs es k claim d lt e =
+    let f = filed-at xs es k d lt ∙ ap (λ v. Some (meaning_of xs v)) e in
+    let t = node_there (claimed (slice_get xs) claim) in
+    record { thing_is = ap (one thing_of) f ∙ t.0; conclusion_is = ap (one conclusion_of) f ∙ t.1 }
+
+pub at_nothing : (xs : List Thing) (es : List Entry) (k : ℕ) (d : Entry) → k < length es → get_or es k d ≡ entry.Nothing → Stands xs es k None None
+at_nothing xs es k d lt e =
+    let f = filed-at xs es k d lt ∙ ap (λ v. Some (meaning_of xs v)) e in
+    record { thing_is = ap (one thing_of) f; conclusion_is = ap (one conclusion_of) f }
+
+-- every entry means something
+
+means_some : (xs : List Thing) (es : List Entry) (k : ℕ) (d : Entry) → AllFiled xs es → k < length es → is_some (entry_meaning xs (get_or es k d)) ≡ true
+means_some xs es k d all lt = AllPass-from_list_all (λ e. is_some (entry_meaning xs e)) es all k d lt
+
+thing_some : (o : Option Thing) → is_some (one (λ x. Some (Means x)) o) ≡ true → IsSome o
+thing_some None e = e
+thing_some (Some x) e = refl
+
+node_some : (o : Option Judgement) → is_some (one (λ J. Some (Concludes J)) o) ≡ true → IsSome o
+node_some None e = e
+node_some (Some J) e = refl
+
+pub live_thing : (xs : List Thing) (es : List Entry) (k row : ℕ) (d : Entry) → AllFiled xs es → k < length es → get_or es k d ≡ entry.Thing row → IsSome (slice_get xs row)
+live_thing xs es k row d all lt e = thing_some (slice_get xs row) (rw e at (means_some xs es k d all lt))
+
+pub live_node : (xs : List Thing) (es : List Entry) (k : ℕ) (claim : Claim) (d : Entry) → AllFiled xs es → k < length es → get_or es k d ≡ entry.Node claim → IsSome (claimed (slice_get xs) claim)
+live_node xs es k claim d all lt e = node_some (claimed (slice_get xs) claim) (rw e at (means_some xs es k d all lt))
+
+pub row_within : (xs : List Thing) (row : ℕ) → IsSome (slice_get xs row) → row < length xs
+row_within xs row some = from (slice_get xs row) refl some
+  where
+    from : (o : Option Thing) → slice_get xs row ≡ o → IsSome o → row < length xs
+    from None e some = cc
+    from (Some x) e some = slice_get_within xs row x e
+
+-- when the store grows
+
+pub claimed-kept : (f g : Meanings) → Kept f g → (claim : Claim) (J : Judgement) → claimed f claim ≡ Some J → claimed g claim ≡ Some J
+claimed-kept f g kept claim J e = from (meanings f (rows_of claim)) refl e
+  where
+    from : (r : Option (List Thing)) → meanings f (rows_of claim) ≡ r → said (form_of claim) r ≡ Some J → claimed g claim ≡ Some J
+    from None er e = cc
+    from (Some xs) er e = ap (said (form_of claim)) (meanings-kept f g kept (rows_of claim) xs er) ∙ e
+
+pub claimed-later : (f g : Meanings) → Kept f g → (claim : Claim) → IsSome (claimed f claim) → claimed g claim ≡ claimed f claim
+claimed-later f g kept claim some = from (claimed f claim) refl some
+  where
+    from : (o : Option Judgement) → claimed f claim ≡ o → IsSome o → claimed g claim ≡ o
+    from None e some = cc
+    from (Some J) e some = claimed-kept f g kept claim J e
+
+entry-later : (xs ys : List Thing) → Kept (slice_get xs) (slice_get ys) → (e : Entry) → is_some (entry_meaning xs e) ≡ true → entry_meaning ys e ≡ entry_meaning xs e
+entry-later xs ys kept (entry.Thing row) some = from (slice_get xs row) refl (thing_some (slice_get xs row) some)
+  where
+    from : (o : Option Thing) → slice_get xs row ≡ o → IsSome o → entry_meaning ys (entry.Thing row) ≡ entry_meaning xs (entry.Thing row)
+    from None e some = cc
+    from (Some x) e some = ap (one (λ x. Some (Means x))) (kept.keeps row x e ∙ sym e)
+entry-later xs ys kept (entry.Node claim) some =
+    ap (one (λ J. Some (Concludes J))) (claimed-later (slice_get xs) (slice_get ys) kept claim (node_some (claimed (slice_get xs) claim) some))
+entry-later xs ys kept entry.Nothing some = refl
+
+both_true : (a b : Bool) → (a && b) ≡ true → (a ≡ true) × (b ≡ true)
+both_true true b e = (refl, e)
+both_true false b e = cc
+
+pub filed-later : (xs ys : List Thing) → Kept (slice_get xs) (slice_get ys) → (es : List Entry) → AllFiled xs es → filed ys es ≡ filed xs es
+filed-later xs ys kept [] all = refl
+filed-later xs ys kept (e ∷ es) all =
+    let b = both_true (is_some (entry_meaning xs e)) _ all in
+    rw (entry-later xs ys kept e b.0, filed-later xs ys kept es b.1) refl
+
+pub all-later : (xs ys : List Thing) → Kept (slice_get xs) (slice_get ys) → (es : List Entry) → AllFiled xs es → AllFiled ys es
+all-later xs ys kept [] all = refl
+all-later xs ys kept (e ∷ es) all =
+    let b = both_true (is_some (entry_meaning xs e)) _ all in
+    rw (entry-later xs ys kept e b.0, b.0, all-later xs ys kept es b.1) refl
+
+-- cut back to what was kept, the store is what it was
+pub take-kept : (xs ys : List Thing) → Kept (slice_get xs) (slice_get ys) → take (length xs) ys ≡ xs
+take-kept [] ys kept = take_zero ys
+  where
+    take_zero : (ys : List Thing) → take 0 ys ≡ []
+    take_zero ys = refl
+take-kept (x ∷ xs) [] kept = let e : slice_get {X = Thing} [] 0 ≡ Some x = kept.keeps 0 x refl in cc
+take-kept (x ∷ xs) (y ∷ ys) kept =
+    let e : Some y ≡ Some x = kept.keeps 0 x refl in
+    let p : y ≡ x = cc in
+    rw (p, take-kept xs ys (record { keeps = λ k z h. kept.keeps (suc k) z h })) refl

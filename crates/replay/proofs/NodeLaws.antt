@@ -1,0 +1,121 @@
+-- What is known of the premises of a node, place by place.
+use Rattle.std.proofs.Common.{◌≡◌, ℕ, zero, suc, ◌+◌, ◌<◌, ◌≤◌, List, [], ◌∷◌, ◌++◌, length, take, get_or, refl, sym, ◌∙◌, ap, ap₂, arith, Option, Some, None, IsSome, IsTrue, Bool, true, false, ◌↔◌, map}
+use Rattle.std.specs.Prelude.{slice_get}
+use Rattle.std.proofs.lemmas.List.{take_all, take_more}
+use Rattle.std.proofs.lemmas.Option.{slice_get-get_or}
+use Rattle.std.specs.List.{All}
+use Rattle.theory.specs.declared.rule.PartKind.{PartKind}
+use Rattle.theory.specs.declared.rule.RuleName.{RuleName}
+use Rattle.theory.specs.Judgements.{Judgement, SideCondition, TreeRule}
+use Rattle.theory.specs.RuleNames.{kinds_of, premises_of}
+use Rattle.theory.specs.Things.{Thing, both, one, listed, meanings, kind_of}
+use Rattle.rules.specs.Rules.{rule_at}
+use Rattle.rules.specs.Sides.{SideHolds}
+use Rattle.rules.specs.Claims.{rule_over, premise_at, conclusion_of as conclusion_of_rule}
+use Rattle.rules.proofs.TableLaws.{wants-count, no_sides, some_rule, rule_kinds}
+use Rattle.derivation.specs.Meanings.{Meaning, things, thing_at, conclusions}
+use Rattle.derivation.specs.Right.{RightNode}
+use Rattle.replay.specs.declared.entry.Entry.{Entry}
+use Rattle.replay.specs.Filed.{filed, AllFiled, wants_of}
+use Rattle.replay.specs.Named.{Names, NamesNone}
+use Rattle.theory.proofs.Meanings.{meanings-more, meanings-all, meanings-place}
+
+-- the rule that stands at parts
+
+pub record RuleThere (name : RuleName) (parts : Option (List Thing)) : Type 0 where
+  pub xs : List Thing
+  pub rule : TreeRule
+  pub parts_are : parts ≡ Some xs
+  pub at : rule_at name xs ≡ Some rule
+  pub is : rule_over name parts ≡ Some rule
+  pub count : length rule.wants ≡ premises_of name
+  pub sides : rule.sides ≡ []
+
+pub rule_there : (name : RuleName) (parts : Option (List Thing)) → IsSome (rule_over name parts) → RuleThere name parts
+rule_there name None some = cc
+rule_there name (Some xs) some = from (rule_at name xs) refl some
+  where
+    from : (o : Option TreeRule) → rule_at name xs ≡ o → IsSome o → RuleThere name (Some xs)
+    from None e some = cc
+    from (Some r) e some = record { xs = xs; rule = r; parts_are = refl; at = e; is = e; count = wants-count name xs r e; sides = no_sides name xs r e }
+
+pub premise_some : (name : RuleName) (parts : Option (List Thing)) (at : ℕ) → IsSome (rule_over name parts) → at < premises_of name → IsSome (premise_at at (rule_over name parts))
+premise_some name parts at some lt =
+    let t = rule_there name parts some in
+    let within : at < length t.rule.wants = omega (arith, t.count) in
+    rw t.is (there t.rule.wants at within)
+  where
+    there : (Js : List Judgement) (at : ℕ) → at < length Js → IsSome (slice_get Js at)
+    there [] at lt = absurd (omega arith)
+    there (J ∷ Js) zero lt = refl
+    there (J ∷ Js) (suc at) lt = there Js at (omega arith)
+
+-- no node stands there
+pub no_node : (o p : Option Judgement) → IsSome p → o ≡ None → IsTrue false ↔ (o ≡ p)
+no_node o None some e = cc
+no_node o (Some J) some e = (λ h. cc, λ h. cc)
+
+-- two claims that say the same
+pub iff_along : (b : Bool) (x y c p : Option Judgement) → IsTrue b ↔ (x ≡ y) → c ≡ y → p ≡ x → IsTrue b ↔ (c ≡ p)
+iff_along b x y c p h ec ep = (λ t. ec ∙ sym (h.0 t) ∙ sym ep, λ e. h.1 (sym ep ∙ sym e ∙ ec))
+
+-- the first of the premises that a rule wants
+abbrev pub wants_front : ℕ → Option TreeRule → Option (List Judgement)
+wants_front n = one (λ r. Some (take n r.wants))
+
+-- so many premises hold
+pub record FrontHolds (f : ℕ → Option Judgement) (ps : List ℕ) (rule : Option TreeRule) (n : ℕ) : Type 0 where
+  pub front : meanings f (take n ps) ≡ wants_front n rule
+
+pub none_holds : (f : ℕ → Option Judgement) (ps : List ℕ) (name : RuleName) (parts : Option (List Thing)) → IsSome (rule_over name parts) → FrontHolds f ps (rule_over name parts) 0
+none_holds f ps name parts some = let t = rule_there name parts some in record { front = rw t.is refl }
+
+pub one_holds : (f : ℕ → Option Judgement) (ps : List ℕ) (name : RuleName) (parts : Option (List Thing)) (i : ℕ) → IsSome (rule_over name parts) → length ps ≡ premises_of name → i < length ps → FrontHolds f ps (rule_over name parts) i → f (get_or ps i 0) ≡ premise_at i (rule_over name parts) → FrontHolds f ps (rule_over name parts) (i + 1)
+one_holds f ps name parts i some n lt h e =
+    let t = rule_there name parts some in
+    let count : length ps ≡ length t.rule.wants = n ∙ sym t.count in
+    let front : meanings f (take i ps) ≡ Some (take i t.rule.wants) = h.front ∙ ap (wants_front i) t.is in
+    let here : f (get_or ps i 0) ≡ slice_get t.rule.wants i = e ∙ ap (premise_at i) t.is in
+    record { front = meanings-more f ps t.rule.wants i lt count front here ∙ sym (ap (wants_front (i + 1)) t.is) }
+
+pub all_hold : (f : ℕ → Option Judgement) (ps : List ℕ) (name : RuleName) (parts : Option (List Thing)) (i : ℕ) → IsSome (rule_over name parts) → length ps ≡ premises_of name → length ps ≤ i → FrontHolds f ps (rule_over name parts) i → meanings f ps ≡ wants_of (rule_over name parts)
+all_hold f ps name parts i some n le h =
+    let t = rule_there name parts some in
+    let count : length ps ≡ length t.rule.wants = n ∙ sym t.count in
+    meanings-all f ps t.rule.wants i le count (h.front ∙ ap (wants_front i) t.is) ∙ sym (ap wants_of t.is)
+
+pub must_hold : (f : ℕ → Option Judgement) (ps : List ℕ) (name : RuleName) (parts : Option (List Thing)) (i : ℕ) → IsSome (rule_over name parts) → i < length ps → meanings f ps ≡ wants_of (rule_over name parts) → f (get_or ps i 0) ≡ premise_at i (rule_over name parts)
+must_hold f ps name parts i some lt e =
+    let t = rule_there name parts some in
+    meanings-place f ps t.rule.wants i (e ∙ ap wants_of t.is) lt ∙ sym (ap (premise_at i) t.is)
+
+-- a node is right, or is not
+
+no_side : (sides : List SideCondition) → sides ≡ [] → All SideHolds sides
+no_side sides e = rw e (λ k d lt. absurd (omega arith))
+
+pub right_node : (before : List Meaning) (name : RuleName) (parts premises : List ℕ) (P : Option (List Thing)) → things before parts ≡ P → IsSome (rule_over name P) → conclusions before premises ≡ wants_of (rule_over name P) → (J : Judgement) × RightNode before name parts premises J × (conclusion_of_rule (rule_over name P) ≡ Some J)
+right_node before name parts premises P eP some hold =
+    let t = rule_there name P some in (
+      t.rule.gives,
+      record {
+        xs = t.xs;
+        Js = t.rule.wants;
+        parts_are = eP ∙ t.parts_are;
+        premises_are = hold ∙ ap wants_of t.is;
+        instance = record { rule = t.rule; is = t.at; wants = refl; sides = no_side t.rule.sides t.sides; gives = refl };
+      },
+      ap conclusion_of_rule t.is,
+    )
+
+pub wrong_parts : (xs : List Thing) (es : List Entry) (name : RuleName) (parts premises : List ℕ) → NamesNone xs es parts (kinds_of name) → (J : Judgement) → RightNode (filed xs es) name parts premises J → ⊥
+wrong_parts xs es name parts premises wrong J r = wrong r.xs r.parts_are (rule_kinds name r.xs (rw r.instance.is refl))
+
+pub some_parts : (xs : List Thing) (es : List Entry) (name : RuleName) (parts rows : List ℕ) → Names xs es parts (kinds_of name) rows → (things (filed xs es) parts ≡ meanings (slice_get xs) rows) × IsSome (rule_over name (meanings (slice_get xs) rows))
+some_parts xs es name parts rows n = (n.numbers_mean ∙ sym n.rows_mean, rw n.rows_mean (some_rule name n.named n.kinds_are))
+
+pub wrong_premises : (before : List Meaning) (name : RuleName) (parts premises : List ℕ) (P : Option (List Thing)) → things before parts ≡ P → (conclusions before premises ≡ wants_of (rule_over name P) → ⊥) → (J : Judgement) → RightNode before name parts premises J → ⊥
+wrong_premises before name parts premises P eP wrong J r =
+    let p : P ≡ Some r.xs = sym eP ∙ r.parts_are in
+    let is : rule_over name P ≡ Some r.instance.rule = ap (rule_over name) p ∙ r.instance.is in
+    wrong (r.premises_are ∙ ap Some r.instance.wants ∙ sym (ap wants_of is))

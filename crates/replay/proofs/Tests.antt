@@ -1,0 +1,20 @@
+-- Facts on tests.
+use Rattle.std.proofs.Common.{◌≡◌, Bool, true, false, not, IsTrue, ◌↔◌}
+
+-- what `!=` says of `==`
+
+pub differs : (same test : Bool) → test ≡ not same → test ≡ true → same ≡ false
+differs true test e t = cc
+differs false test e t = cc
+
+pub agrees : (same test : Bool) → test ≡ not same → test ≡ false → same ≡ true
+agrees true test e t = cc
+agrees false test e t = cc
+
+pub never : IsTrue false → ⊥
+never h = cc
+
+-- a test that fails refutes what would make it pass
+pub refuted : (b : Bool) (X : Type 0) → (X → IsTrue b) → b ≡ false → IsTrue false ↔ X
+refuted true X f e = cc
+refuted false X f e = (λ h. absurd (never h), f)

@@ -1,0 +1,33 @@
+use Rattle.std.proofs.Common.{◌≡◌, ◌∙◌, sym, ap, Option, Some, IsSome}
+use Rattle.std.specs.Prelude.{slice_get}
+use Rattle.theory.specs.Judgements.{Judgement}
+use Rattle.theory.specs.Things.{meanings}
+use Rattle.rules.specs.Claims.{rule_over, claimed, conclusion_of}
+use Rattle.replay.specs.Filed.{filed}
+use Rattle.replay.specs.Shown.{shown}
+use Rattle.replay.proofs.NodeLaws.{right_node, wrong_parts, some_parts}
+use Rattle.replay.proofs.node.node_claim.Goals as goal
+
+pub returns-in_default-clause-none : goal.returns-in_default-clause-none
+returns-in_default-clause-none c =
+    wrong_parts (shown c.args.store.now) c.args.entries.now c.args.rule c.args.parts.now c.args.premises.now (rw (c.in_default.is, c.part_kinds.ensures.kinds) at c.in_ok-rows.ensures.none)
+
+pub premises_hold-requires-clause-parts : goal.premises_hold-requires-clause-parts
+premises_hold-requires-clause-parts c =
+    rw c.deref.ensures.value (some_parts (shown c.args.store.now) c.args.entries.now c.args.rule c.args.parts.now c.in-Some.rows.items (rw (c.in-Some.is, c.part_kinds.ensures.kinds) at c.in_ok-rows.ensures.some)).1
+
+pub concluded-requires : goal.concluded-requires
+concluded-requires c =
+    rw (c.in_ok-premises_hold.ensures.same, c.deref-2.ensures.value) (some_parts (shown c.args.store.now) c.args.entries.now c.args.rule c.args.parts.now c.in-Some.rows.items (rw (c.in-Some.is, c.part_kinds.ensures.kinds) at c.in_ok-rows.ensures.some)).1
+
+pub returns-clause-some : goal.returns-clause-some
+returns-clause-some c =
+    let xs = shown c.args.store.now in
+    let rows = c.in-Some.rows.items in
+    let P = meanings (slice_get xs) rows in
+    let parts = some_parts xs c.args.entries.now c.args.rule c.args.parts.now rows (rw (c.in-Some.is, c.part_kinds.ensures.kinds) at c.in_ok-rows.ensures.some) in
+    let hold = rw c.deref.ensures.value at (c.in_ok-premises_hold.ensures.hold.0 c.if-not-branch.false) in
+    let right = right_node (filed xs c.args.entries.now) c.args.rule c.args.parts.now c.args.premises.now P parts.0 parts.1 hold in
+    let claim : claimed (slice_get (shown c.concluded.new.maker)) c.in_ok-concluded.field-0 ≡ conclusion_of (rule_over c.args.rule P) =
+        rw (c.in_ok-premises_hold.ensures.same, c.deref-2.ensures.value) at c.in_ok-concluded.ensures.claim in
+    (right.0, right.1, claim ∙ right.2)

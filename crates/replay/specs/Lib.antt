@@ -1,0 +1,5 @@
+pub mod Stores
+pub mod Shown
+pub mod Pairs
+pub mod Filed
+pub mod Named

@@ -1,0 +1,12 @@
+//! The judge of derivation files: whether every row is right, and else which is the first that is not.
+//!
+//! It shares with the checker the language of the theory, the rules and the rows of files, and nothing else.
+#![tactic(auto)]
+
+mod claims;
+mod compare;
+mod entry;
+mod named;
+mod node;
+mod store;
+mod stored;

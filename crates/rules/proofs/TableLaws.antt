@@ -1,0 +1,86 @@
+-- Facts on every rule of the table.
+use Rattle.std.proofs.Common.{◌≡◌, List, [], ◌∷◌, length, refl, sym, ◌∙◌, ap, Option, Some, None, IsSome, map}
+use Rattle.theory.specs.declared.rule.PartKind.{PartKind}
+use Rattle.theory.specs.declared.rule.PartKind.TheVariants as part
+use Rattle.theory.specs.declared.rule.ContextRule.TheVariants.{CtxNil}
+use Rattle.theory.specs.declared.rule.UniverseRule.TheVariants.{TyU}
+use Rattle.theory.specs.declared.rule.NatRule.TheVariants.{NatU, Zero, Suc}
+use Rattle.theory.specs.declared.rule.RuleName.{RuleName}
+use Rattle.theory.specs.declared.rule.RuleName.TheVariants.{Contexts, Universe, Naturals}
+use Rattle.theory.specs.Judgements.{trees, TreeRule}
+use Rattle.theory.specs.RuleNames.{kinds_of, premises_of}
+use Rattle.theory.specs.Things.{Thing, ATree, ASubst, AContext, kind_of}
+use Rattle.rules.specs.Table.{Over}
+use Rattle.rules.specs.Rules.{tree_rule, over_parts, rule_at, AtAllParts}
+use Rattle.rules.proofs.Readings.{at_parts}
+
+-- a rule wants as many premises as the table of names says
+counted : (name : RuleName) → AtAllParts (kinds_of name) (tree_rule name) (λ xs r. length r.wants ≡ premises_of name)
+counted (Contexts CtxNil) = refl
+counted (Universe TyU) = λ G A. refl
+counted (Naturals NatU) = λ G. refl
+counted (Naturals Zero) = λ G. refl
+counted (Naturals Suc) = λ G n. refl
+
+-- no rule so far has a side condition
+sideless : (name : RuleName) → AtAllParts (kinds_of name) (tree_rule name) (λ xs r. r.sides ≡ [])
+sideless (Contexts CtxNil) = refl
+sideless (Universe TyU) = λ G A. refl
+sideless (Naturals NatU) = λ G. refl
+sideless (Naturals Zero) = λ G. refl
+sideless (Naturals Suc) = λ G n. refl
+
+-- what holds at all parts holds of the rule at these
+pub at_these : (name : RuleName) (P : List Thing → TreeRule → Type 0) → AtAllParts (kinds_of name) (tree_rule name) P → (xs : List Thing) (r : TreeRule) → rule_at name xs ≡ Some r → P xs r
+unfolding rule_at
+at_these name P h xs r e =
+    let a = at_parts (kinds_of name) (tree_rule name) P h xs (rw e refl) in
+    let p : Some a.rule ≡ Some r = sym a.is ∙ e in
+    let q : a.rule ≡ r = cc in
+    rw (sym q) a.holds
+
+pub wants-count : (name : RuleName) (xs : List Thing) (r : TreeRule) → rule_at name xs ≡ Some r → length r.wants ≡ premises_of name
+wants-count name = at_these name (λ xs r. length r.wants ≡ premises_of name) (counted name)
+
+pub no_sides : (name : RuleName) (xs : List Thing) (r : TreeRule) → rule_at name xs ≡ Some r → r.sides ≡ []
+no_sides name = at_these name (λ xs r. r.sides ≡ []) (sideless name)
+
+-- a rule stands at parts exactly where they have its kinds
+
+kinds_over : (kinds : List PartKind) (r : Over trees kinds) (xs : List Thing) → map kind_of xs ≡ kinds → IsSome (over_parts kinds r xs)
+kinds_over [] r [] e = refl
+kinds_over [] r (x ∷ xs) e = cc
+kinds_over (k ∷ kinds) r [] e = cc
+kinds_over (part.Context ∷ kinds) r (AContext G ∷ xs) e = kinds_over kinds (r G) xs (cc)
+kinds_over (part.Context ∷ kinds) r (ATree t ∷ xs) e = cc
+kinds_over (part.Context ∷ kinds) r (ASubst d ∷ xs) e = cc
+kinds_over (part.Subst ∷ kinds) r (AContext G ∷ xs) e = cc
+kinds_over (part.Subst ∷ kinds) r (ATree t ∷ xs) e = cc
+kinds_over (part.Subst ∷ kinds) r (ASubst d ∷ xs) e = kinds_over kinds (r d) xs (cc)
+kinds_over (part.Term ∷ kinds) r (AContext G ∷ xs) e = cc
+kinds_over (part.Term ∷ kinds) r (ATree t ∷ xs) e = kinds_over kinds (r t) xs (cc)
+kinds_over (part.Term ∷ kinds) r (ASubst d ∷ xs) e = cc
+
+over_kinds : (kinds : List PartKind) (r : Over trees kinds) (xs : List Thing) → IsSome (over_parts kinds r xs) → map kind_of xs ≡ kinds
+over_kinds [] r [] s = refl
+over_kinds [] r (x ∷ xs) s = cc
+over_kinds (part.Context ∷ kinds) r [] s = cc
+over_kinds (part.Context ∷ kinds) r (AContext G ∷ xs) s = ap (λ ks. part.Context ∷ ks) (over_kinds kinds (r G) xs s)
+over_kinds (part.Context ∷ kinds) r (ATree t ∷ xs) s = cc
+over_kinds (part.Context ∷ kinds) r (ASubst d ∷ xs) s = cc
+over_kinds (part.Subst ∷ kinds) r [] s = cc
+over_kinds (part.Subst ∷ kinds) r (AContext G ∷ xs) s = cc
+over_kinds (part.Subst ∷ kinds) r (ATree t ∷ xs) s = cc
+over_kinds (part.Subst ∷ kinds) r (ASubst d ∷ xs) s = ap (λ ks. part.Subst ∷ ks) (over_kinds kinds (r d) xs s)
+over_kinds (part.Term ∷ kinds) r [] s = cc
+over_kinds (part.Term ∷ kinds) r (AContext G ∷ xs) s = cc
+over_kinds (part.Term ∷ kinds) r (ATree t ∷ xs) s = ap (λ ks. part.Term ∷ ks) (over_kinds kinds (r t) xs s)
+over_kinds (part.Term ∷ kinds) r (ASubst d ∷ xs) s = cc
+
+pub some_rule : (name : RuleName) (xs : List Thing) → map kind_of xs ≡ kinds_of name → IsSome (rule_at name xs)
+unfolding rule_at
+some_rule name xs e = kinds_over (kinds_of name) (tree_rule name) xs e
+
+pub rule_kinds : (name : RuleName) (xs : List Thing) → IsSome (rule_at name xs) → map kind_of xs ≡ kinds_of name
+unfolding rule_at
+rule_kinds name xs s = over_kinds (kinds_of name) (tree_rule name) xs s
