@@ -5,3 +5,4 @@ pub mod RowLemmas
 pub mod LineLemmas
 pub mod SpellingLemmas
 pub mod ReaderLemmas
+pub mod RowsLemmas

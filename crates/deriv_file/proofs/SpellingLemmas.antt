@@ -1,9 +1,10 @@
 -- A line spells one row at most.
 use Rattle.std.proofs.Common.{◌≡◌, ◌≢◌, ℕ, ◌+◌, ◌<◌, ◌≤◌, ◌^◌, List, [], ◌∷◌, ◌++◌, length, get_or, map, take, codes, decimal, refl, sym, ◌∙◌, ap, subst, arith}
 use Rattle.std.specs.List.{All, AllByRecursion, join_with_byte}
+use Rattle.std.specs.Io.BufRead.{take_through, drop_through}
 use Rattle.std.proofs.lemmas.Fmt.{decimal_injective, decimal_is_IsNumeral}
-use Rattle.std.proofs.lemmas.List.{append_cancel_right, take_at, length-map, append-nil}
-use Rattle.std.proofs.lemmas.List.Elements.{All-head, All-tail, All-from_get_or, All-weaker, All-append, All-cons}
+use Rattle.std.proofs.lemmas.List.{append_assoc, append_cancel_right, take_at, length-map, append-nil}
+use Rattle.std.proofs.lemmas.List.Elements.{All-head, All-tail, All-from_get_or, All-weaker, All-append, All-cons, All-nil}
 use Rattle.std.proofs.lemmas.List.Splits.{slice_split_none, slice_split_at, join_with_byte-slice_split}
 use Rattle.std.proofs.lemmas.Str.Parse.{digit_at}
 use Rattle.theory.specs.Operators.{name_of as operator_name, kids_of}
@@ -12,6 +13,7 @@ use Rattle.deriv_file.specs.declared.row.Row.{Row}
 use Rattle.deriv_file.specs.declared.row.Row.TheVariants.{Header, Make, CtxNil, Node, Root}
 use Rattle.deriv_file.specs.Spelling.{words_of, spelled, newest, Earlier, MayStand, Spells}
 use Rattle.deriv_file.specs.Words.{line_words, BeginWith}
+use Rattle.deriv_file.proofs.LineLemmas.{first_line}
 use Rattle.deriv_file.proofs.NameLemmas.{visible, operator_visible, rule_visible}
 use Rattle.deriv_file.proofs.RowLemmas.{header_row, tree_row, context_row, node_row, root_row, same_rest}
 use Rattle.deriv_file.proofs.WordLemmas.{first_word, one_word}
@@ -73,6 +75,21 @@ some_words (Root node) = omega arith
 -- a row's line without its newline is cut into the row's words
 pub words_of_row : (version at : ℕ) (row : Row) → MayStand version at row → line_words (join_with_byte 32 (words_of row)) ≡ words_of row
 words_of_row version at row stands = words_of_joined (words_of row) (some_words row) (row_words version at row stands)
+
+no_newline_joined : (words : List (List ℕ)) → AreWords words → All (λ b. b ≢ 10) (join_with_byte 32 words)
+no_newline_joined [] each = All-nil (λ b. b ≢ 10)
+no_newline_joined (w ∷ []) each = no_byte 10 (omega arith) w each.0
+no_newline_joined (w ∷ v ∷ words) each =
+    All-append (λ b. b ≢ 10) w (32 ∷ join_with_byte 32 (v ∷ words)) (no_byte 10 (omega arith) w each.0)
+    (All-cons (λ b. b ≢ 10) 32 (join_with_byte 32 (v ∷ words)) (λ e. omega (arith, e)) (no_newline_joined (v ∷ words) each.1))
+
+-- in front of more bytes a row's line is the first
+pub row_line : (version at : ℕ) (row : Row) (more : List ℕ) → MayStand version at row → (take_through 10 (spelled row ++ more) ≡ spelled row) × (drop_through 10 (spelled row ++ more) ≡ more)
+row_line version at row more stands =
+    let line = join_with_byte 32 (words_of row) in
+    let whole : spelled row ++ more ≡ line ++ 10 ∷ more = append_assoc line (10 ∷ []) more in
+    let cut = first_line line more (no_newline_joined (words_of row) (row_words version at row stands)) in
+    (ap (take_through 10) whole ∙ cut.0, ap (drop_through 10) whole ∙ cut.1)
 
 -- a line that is cut into a row's words, with a newline, spells the row
 pub line_of_words : (line : List ℕ) (row : Row) → line_words line ≡ words_of row → line ++ 10 ∷ [] ≡ spelled row

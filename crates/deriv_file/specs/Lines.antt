@@ -14,4 +14,10 @@ abbrev pub SpellRows : ℕ → ℕ → List (List ℕ) → List Row → Type 0
 SpellRows version at [] [] = Unit {0}
 SpellRows version at [] (row ∷ rows) = ⊥
 SpellRows version at (line ∷ lines) [] = ⊥
-SpellRows version at (line ∷ lines) (row ∷ rows) = Spells version at line row × SpellRows (version_after version row) (at + 1) lines rows
+SpellRows version at (line ∷ lines) (row ∷ rows) =
+    Spells version at line row × SpellRows (version_after version row) (at + 1) lines rows
+
+-- the version of the rules behind these rows
+abbrev pub version_behind : ℕ → List Row → ℕ
+version_behind version [] = version
+version_behind version (row ∷ rows) = version_behind (version_after version row) rows
