@@ -6,3 +6,4 @@ pub mod LineLemmas
 pub mod SpellingLemmas
 pub mod ReaderLemmas
 pub mod RowsLemmas
+pub mod WriteLemmas

@@ -1,6 +1,6 @@
 -- The words of a line, and what is read from them.
-use Rattle.std.specs.Prelude.{◌≡◌, ℕ, List, [], ◌++◌, map, length, decimal, ◌==◌, Option, Some, None}
-use Rattle.std.specs.List.{All, slice_split}
+use Rattle.std.specs.Prelude.{◌≡◌, ℕ, List, [], ◌∷◌, ◌++◌, map, length, take, decimal, ◌==◌, Option, Some, None}
+use Rattle.std.specs.List.{All, slice_split, flat_map}
 use denote.Ref.{Bor}
 use Rattle.deriv_file.specs.declared.row.Row.{Row}
 use Rattle.deriv_file.specs.Spelling.{words_of, Earlier, MayStand}
@@ -24,3 +24,11 @@ pub record BeginWith (words : List (List ℕ)) (count at : ℕ) (ids : List ℕ)
 abbrev pub Reads : ℕ → ℕ → List (List ℕ) → Option Row → Type 0
 Reads version at words None = (row : Row) → words ≡ words_of row → MayStand version at row → ⊥
 Reads version at words (Some row) = (words ≡ words_of row) × MayStand version at row
+
+-- numbers with a space in front of each
+abbrev pub spaced : List ℕ → List ℕ
+spaced numbers = flat_map (λ n. 32 ∷ decimal n) numbers
+
+-- the new bytes begin with the old ones
+abbrev pub Extends : List ℕ → List ℕ → Type 0
+Extends old new = take (length old) new ≡ old

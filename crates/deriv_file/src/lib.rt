@@ -7,7 +7,9 @@ mod number;
 mod reader;
 mod row;
 mod words;
+mod write;
 
 pub use ids::Ids;
 pub use reader::{Next, RowReader};
 pub use row::{NEWEST, Row};
+pub use write::write_row;
