@@ -1,5 +1,5 @@
 -- The lines of a file.
-use Rattle.std.proofs.Common.{◌≡◌, ◌≢◌, ℕ, ◌<◌, List, [], ◌∷◌, ◌++◌, length, cond, refl, sym, ap, ◌∙◌, arith, eq-eqb, ne_eqb}
+use Rattle.std.proofs.Common.{◌≡◌, ◌≢◌, ℕ, ◌<◌, List, [], ◌∷◌, ◌++◌, length, cond, refl, ap, ◌∙◌, arith, ne_eqb}
 use Rattle.std.specs.List.{All}
 use Rattle.std.specs.Io.BufRead.{take_through, drop_through}
 use Rattle.std.proofs.lemmas.List.Elements.{All-head, All-tail}
@@ -16,6 +16,18 @@ pub lines_step : (xs : List ℕ) → 0 < length xs → lines xs ≡ take_through
 lines_step [] h = absurd (omega arith)
 lines_step (x ∷ []) h = step_one x
 lines_step (x ∷ y ∷ ys) h = step_more x (y ∷ ys) (lines_step (y ∷ ys) (omega arith))
+
+shorter_one : (x : ℕ) → length (drop_through 10 (x ∷ [])) < length (x ∷ [])
+shorter_one x = grind arith
+
+shorter_more : (x : ℕ) (xs : List ℕ) → length (drop_through 10 xs) < length xs → length (drop_through 10 (x ∷ xs)) < length (x ∷ xs)
+shorter_more x xs shorter = grind arith
+
+-- past a line fewer bytes are left
+pub length-drop_through-lt : (xs : List ℕ) → 0 < length xs → length (drop_through 10 xs) < length xs
+length-drop_through-lt [] h = absurd (omega arith)
+length-drop_through-lt (x ∷ []) h = shorter_one x
+length-drop_through-lt (x ∷ y ∷ ys) h = shorter_more x (y ∷ ys) (length-drop_through-lt (y ∷ ys) (omega arith))
 
 other : (x : ℕ) (xs : List ℕ) → All (λ b. b ≢ 10) (x ∷ xs) → (ys : List ℕ) → (take_through 10 (x ∷ ys) ≡ x ∷ take_through 10 ys) × (drop_through 10 (x ∷ ys) ≡ drop_through 10 ys)
 other x xs none ys =

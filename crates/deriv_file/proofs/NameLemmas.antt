@@ -1,5 +1,5 @@
 -- The names of operators and rules are distinct, and are words of visible characters.
-use Rattle.std.proofs.Common.{◌≡◌, ℕ, ◌<◌, Bool, true, List, [], ◌∷◌, map, length, get_or, nat_lt, refl, sym, ◌∙◌, ap, subst, arith, cond}
+use Rattle.std.proofs.Common.{◌≡◌, ℕ, ◌<◌, Bool, true, List, [], ◌∷◌, map, length, get_or, nat_lt, refl, sym, ◌∙◌, ap, arith}
 use Rattle.std.specs.List.{Contains, position_or_len, list_all, range_with_len, All}
 use Rattle.std.specs.Str.{bytes_eq}
 use Rattle.std.proofs.lemmas.List.{get_or-map, get_or_default}

@@ -1,12 +1,11 @@
 -- What the bytes in front of a reader spell.
-use Rattle.std.proofs.Common.{◌≡◌, ◌≢◌, ℕ, ◌+◌, ◌<◌, List, [], ◌∷◌, ◌++◌, length, get_or, Option, None, Some, refl, sym, ◌∙◌, ap, subst, arith, length-append}
+use Rattle.std.proofs.Common.{◌≡◌, ◌≢◌, ℕ, List, [], ◌∷◌, ◌++◌, length, get_or, None, Some, refl, sym, ◌∙◌, ap, arith, length-append}
 use Rattle.std.specs.List.{All, join_with_byte}
 use Rattle.std.specs.Io.BufRead.{take_through, drop_through}
 use Rattle.std.proofs.lemmas.List.{get_or_at}
 use Rattle.deriv_file.specs.declared.row.Row.{Row}
-use Rattle.deriv_file.specs.Spelling.{words_of, spelled, MayStand, Spells}
+use Rattle.deriv_file.specs.Spelling.{words_of, Spells}
 use Rattle.deriv_file.specs.Words.{line_words, Reads}
-use Rattle.deriv_file.specs.Reading.{Reading}
 use Rattle.deriv_file.proofs.LineLemmas.{first_line, only_line}
 use Rattle.deriv_file.proofs.SpellingLemmas.{line_of_words, words_of_line}
 
@@ -32,6 +31,3 @@ module _ (version at : ℕ) (bytes line rest : List ℕ) (cut : bytes ≡ line +
   -- those of no row
   pub line_spells_none : Reads version at (line_words line) None → (row : Row) → Spells version at (take_through 10 bytes) row → ⊥
   line_spells_none reads row spells = reads row (words_of_line version at line row (sym line_is ∙ spells.0) spells.1) spells.1
-
-pub same_reading : (rest bytes : List ℕ) (at version v : ℕ) → rest ≡ bytes → version ≡ v → ◌≡◌ {A = Reading} (record { rest = rest; at = at; version = version }) (record { rest = bytes; at = at; version = v })
-same_reading rest bytes at version v e f = cc

@@ -1,17 +1,17 @@
 -- A line spells one row at most.
-use Rattle.std.proofs.Common.{◌≡◌, ◌≢◌, ℕ, ◌+◌, ◌<◌, ◌≤◌, ◌^◌, List, [], ◌∷◌, ◌++◌, length, get_or, map, take, codes, decimal, refl, sym, ◌∙◌, ap, subst, arith}
+use Rattle.std.proofs.Common.{◌≡◌, ◌≢◌, ℕ, ◌<◌, ◌≤◌, ◌^◌, List, [], ◌∷◌, ◌++◌, length, map, take, codes, decimal, refl, sym, ◌∙◌, ap, subst, arith}
 use Rattle.std.specs.List.{All, AllByRecursion, join_with_byte}
 use Rattle.std.specs.Io.BufRead.{take_through, drop_through}
 use Rattle.std.proofs.lemmas.Fmt.{decimal_injective, decimal_is_IsNumeral}
 use Rattle.std.proofs.lemmas.List.{append_assoc, append_cancel_right, take_at, length-map, append-nil}
 use Rattle.std.proofs.lemmas.List.Elements.{All-head, All-tail, All-from_get_or, All-weaker, All-append, All-cons, All-nil}
-use Rattle.std.proofs.lemmas.List.Splits.{slice_split_none, slice_split_at, join_with_byte-slice_split}
+use Rattle.std.proofs.lemmas.List.Splits.{join_with_byte-slice_split}
 use Rattle.std.proofs.lemmas.Str.Parse.{digit_at}
 use Rattle.theory.specs.Operators.{name_of as operator_name, kids_of}
 use Rattle.theory.specs.RuleNames.{name_of as rule_name, kinds_of, premises_of}
 use Rattle.deriv_file.specs.declared.row.Row.{Row}
 use Rattle.deriv_file.specs.declared.row.Row.TheVariants.{Header, Make, CtxNil, Node, Root}
-use Rattle.deriv_file.specs.Spelling.{words_of, spelled, newest, Earlier, MayStand, Spells}
+use Rattle.deriv_file.specs.Spelling.{words_of, spelled, Earlier, MayStand, Spells}
 use Rattle.deriv_file.specs.Words.{line_words, BeginWith}
 use Rattle.deriv_file.proofs.LineLemmas.{first_line}
 use Rattle.deriv_file.proofs.NameLemmas.{visible, operator_visible, rule_visible}
@@ -115,9 +115,9 @@ same_numbers at (n ∷ ids) (m ∷ others) each every e =
 same_ids : (words : List (List ℕ)) (count at : ℕ) (ids others : List ℕ) (more rest : List (List ℕ)) → BeginWith words count at ids more → BeginWith words count at others rest → ids ≡ others
 same_ids words count at ids others more rest begin again =
     same_numbers at ids others begin.earlier again.earlier (
-      sym (take_at (map decimal ids) more count (length-map ids decimal ∙ begin.counted))
-      ∙ ap (take count) (sym begin.spelt ∙ again.spelt)
-      ∙ take_at (map decimal others) rest count (length-map others decimal ∙ again.counted))
+    sym (take_at (map decimal ids) more count (length-map ids decimal ∙ begin.counted))
+    ∙ ap (take count) (sym begin.spelt ∙ again.spelt)
+    ∙ take_at (map decimal others) rest count (length-map others decimal ∙ again.counted))
 
 all_numbers : (at count : ℕ) (ids : List ℕ) → length ids ≡ count → All (Earlier at) ids → BeginWith (map decimal ids) count at ids []
 all_numbers at count ids counted each = record { spelt = sym (append-nil (map decimal ids)); counted = counted; earlier = each }

@@ -3,10 +3,11 @@
 ghost use Rattle.std.specs.Prelude.{◌≡◌, [], ◌∷◌, ◌++◌, IfOk, OnOk, OnErr};
 
 use std::alloc::{AllocError, Global};
+use std::fmt;
 use std::marker::Model;
 
 /// Numbers of rows.
-#[derive(Debug, Drop)]
+#[derive(Drop)]
 pub struct Ids {
     items: Vec<u64>,
 }
@@ -51,5 +52,11 @@ impl Ids {
         ensures { result.now ≡ self.now }
     {
         &self.items
+    }
+}
+
+impl fmt::Debug for Ids {
+    fn fmt<W: fmt::Write>(&self, f: &mut fmt::Formatter<W>) -> fmt::Result {
+        self.items.fmt(f)
     }
 }

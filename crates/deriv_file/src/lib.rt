@@ -13,3 +13,6 @@ pub use ids::Ids;
 pub use reader::{Next, RowReader};
 pub use row::{NEWEST, Row};
 pub use write::write_row;
+
+#[cfg(test)]
+mod tests;

@@ -1,18 +1,40 @@
 //! The row that a line spells.
 
-ghost use Rattle.std.specs.Prelude.{◌≡◌, ◌≤◌, ◌∷◌, IfOk, codes};
+ghost use Rattle.std.specs.Prelude.{◌≡◌, ◌≤◌, ◌∷◌, IfOk, IfSome, IfNone, codes};
 ghost use Rattle.std.specs.Option.{SomeIff};
-ghost use Rattle.deriv_file.specs.Spelling.{newest};
+ghost use Rattle.std.specs.Io.BufRead.{take_through, drop_through};
+ghost use Rattle.deriv_file.specs.Spelling.{newest, Spells};
 ghost use Rattle.deriv_file.specs.Words.{line_words, Reads};
+ghost use Rattle.deriv_file.specs.declared.row.Row.{Row};
 
 use crate::number::number;
 use crate::row::{NEWEST, Place, Row};
-use crate::words::Words;
+use crate::words::{Words, split_at_first};
 use std::alloc::{AllocError, Global};
 use theory::{count_parts, count_premises, kid_count, op_of, rule_of};
 
+/// The row that the first line of the bytes spells at a place, with the bytes behind the line, if it spells one.
+pub(crate) fn first_row(
+    alloc: Global,
+    bytes: &[u8],
+    place: Place,
+) -> Result<Option<(Row, &[u8])>, AllocError>
+    ensures some { IfOk result (λ found. IfSome found
+        (λ first. Spells place.version place.at (take_through 10 bytes.now) first.0 × (first.1.now ≡ drop_through 10 bytes.now))) }
+    ensures none { IfOk result (λ found. IfNone found
+        ((row : Row) → Spells place.version place.at (take_through 10 bytes.now) row → ⊥)) }
+{
+    let Some((line, rest)) = split_at_first(bytes, b'\n') else {
+        return Ok(None);
+    };
+    match row_of(alloc, line, place)? {
+        Some(row) => Ok(Some((row, rest))),
+        None => Ok(None),
+    }
+}
+
 /// The row that a line without its newline spells at a place, if any.
-pub(crate) fn row_of(alloc: Global, line: &[u8], place: Place) -> Result<Option<Row>, AllocError>
+fn row_of(alloc: Global, line: &[u8], place: Place) -> Result<Option<Row>, AllocError>
     ensures { IfOk result (Reads place.version place.at (line_words line.now)) }
 {
     let mut words = Words::new(line);

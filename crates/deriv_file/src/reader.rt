@@ -3,9 +3,8 @@
 ghost use Rattle.std.specs.Prelude.{◌≡◌, IfOk, OnErr};
 ghost use Rattle.deriv_file.specs.Reader.{start, NextIs};
 
-use crate::line::row_of;
+use crate::line::first_row;
 use crate::row::{NEWEST, Place, Row, version_after};
-use crate::words::split_at_first;
 use std::alloc::{AllocError, Global};
 use std::marker::Model;
 
@@ -62,17 +61,16 @@ impl<'a> RowReader<'a> {
         if self.rest.is_empty() {
             return Ok(Next::End);
         }
-        let Some((line, rest)) = split_at_first(self.rest, b'\n') else {
-            return Ok(Next::BadSpelling(self.place.at));
-        };
-        let Some(row) = row_of(alloc, line, self.place)? else {
-            return Ok(Next::BadSpelling(self.place.at));
-        };
-        self.place = Place {
-            at: self.place.at + 1,
-            version: version_after(self.place.version, &row),
-        };
-        self.rest = rest;
-        Ok(Next::Row(row))
+        match first_row(alloc, self.rest, self.place)? {
+            Some((row, rest)) => {
+                self.place = Place {
+                    at: self.place.at + 1,
+                    version: version_after(self.place.version, &row),
+                };
+                self.rest = rest;
+                Ok(Next::Row(row))
+            }
+            None => Ok(Next::BadSpelling(self.place.at)),
+        }
     }
 }

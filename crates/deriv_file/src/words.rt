@@ -80,7 +80,12 @@ impl<'a> Words<'a> {
     }
 
     /// Takes the next words, if they are the numbers of so many rows in front of row `at`.
-    pub(crate) fn numbers(&mut self, alloc: Global, count: u8, at: u64) -> Result<Option<Ids>, AllocError>
+    pub(crate) fn numbers(
+        &mut self,
+        alloc: Global,
+        count: u8,
+        at: u64,
+    ) -> Result<Option<Ids>, AllocError>
         ensures some { IfOk result (λ found. IfSome found (λ ids. BeginWith self.old count at ids self.new)) }
         ensures none { IfOk result (λ found. IfNone found ((ids : List ℕ) (more : List (List ℕ)) → BeginWith self.old count at ids more → ⊥)) }
     {

@@ -1,7 +1,6 @@
-use Rattle.std.proofs.Common.{◌≡◌, ◌<◌, ◌^◌, ◌∙◌, sym, rules, arith, decimal}
+use Rattle.std.proofs.Common.{◌≡◌, ◌∙◌, sym, rules, arith, decimal}
 use Rattle.std.proofs.lemmas.Fmt.{decimal_injective}
 use Rattle.deriv_file.proofs.RowLemmas.{header_row}
-use Rattle.deriv_file.proofs.SpellingLemmas.{spells_one}
 use Rattle.deriv_file.proofs.line.header.Goals as goal
 
 pub returns-in_err-version : goal.returns-in_err-version

@@ -13,7 +13,7 @@ returns-in_default-2 c = λ row e stands.
     none node.0 (map decimal node.1) node.3
 
 pub returns-in_default-3 : goal.returns-in_default-3
-returns-in_default-3 c = λ row e stands. 
+returns-in_default-3 c = λ row e stands.
     let named = c.in-Some-rule_of.ensures.some in
     let node = node_row c.args.place.version c.args.place.at c.args.words.now c.take.new.self c.in-Some.name.now c.in-Some-rule_of.rule c.count_parts.result c.count_premises.result c.in-Some.ensures named.0 c.count_parts.ensures c.count_premises.ensures row e stands in
     let taken = rw c.in-Some-2.is at c.in_ok-parts.ensures.some in

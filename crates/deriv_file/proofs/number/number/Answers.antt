@@ -16,6 +16,6 @@ returns c =
     let single : get_or c.args.word.now 0 0 ≡ 48 → length c.args.word.now ≡ 1 = λ zero. elim c.else-first-eq48.branch [
       | else-first-eq48-via-then-first-eq48+else-word-gt1 w ↦ omega (arith, w.if-word-gt1.false)
       | else-first-eq48-via-else-first-eq48 w ↦ absurd (w.if-first-eq48.false zero)
-      ] in
+    ] in
     let read = number_read c.args.word.now c.digits.result c.in-len1-up.len_at_least single c.digits.ensures in
     record { some = read.0; none = read.1 }

@@ -1,4 +1,4 @@
-use Rattle.std.proofs.Common.{◌≡◌, ◌++◌, List, ℕ, append_assoc, subst}
+use Rattle.std.proofs.Common.{◌≡◌, ◌++◌, append_assoc, subst}
 use Rattle.std.proofs.lemmas.Result.{err_from_is_err_and}
 use Rattle.deriv_file.specs.Words.{Extends, spaced}
 use Rattle.deriv_file.proofs.WriteLemmas.{extends_front}

@@ -1,4 +1,3 @@
-use Rattle.std.proofs.Common.{rules, ◌≡◌, IsTrue, subst, [], List, ℕ}
 use Rattle.deriv_file.proofs.WordLemmas.{no_words}
 use Rattle.deriv_file.proofs.words.Words.is_empty.Goals as goal
 
