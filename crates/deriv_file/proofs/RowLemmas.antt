@@ -1,0 +1,62 @@
+-- Which rows the words of a line may be, by the first word.
+use Rattle.std.proofs.Common.{◌≡◌, ℕ, ◌≤◌, Bool, false, List, [], ◌∷◌, ◌++◌, length, map, drop, codes, refl, sym, ◌∙◌, ap, decimal}
+use Rattle.std.specs.Str.{bytes_eq}
+use Rattle.std.proofs.lemmas.Bool.{false≢true}
+use Rattle.std.proofs.lemmas.List.{append-nil, drop_at, length-map}
+use Rattle.theory.specs.Operators.{name_of as operator_name, kids_of}
+use Rattle.theory.specs.RuleNames.{name_of as rule_name, kinds_of, premises_of}
+use Rattle.theory.specs.declared.op.Op.{Op}
+use Rattle.theory.specs.declared.rule.RuleName.{RuleName}
+use Rattle.deriv_file.specs.declared.row.Row.{Row}
+use Rattle.deriv_file.specs.declared.row.Row.TheVariants.{Header, Make, CtxNil, Node, Root}
+use Rattle.deriv_file.specs.Spelling.{words_of, MayStand, newest}
+use Rattle.deriv_file.specs.Words.{BeginWith}
+use Rattle.deriv_file.proofs.NameLemmas.{same_operator, same_rule}
+
+-- whether the first word is that
+abbrev begin_with : List ℕ → List (List ℕ) → Bool
+begin_with word [] = false
+begin_with word (w ∷ words) = bytes_eq w word
+
+-- behind so many numbers the same is left
+pub same_rest : (words : List (List ℕ)) (count at : ℕ) (ids others : List ℕ) (more rest : List (List ℕ)) → BeginWith words count at ids more → BeginWith words count at others rest → more ≡ rest
+same_rest words count at ids others more rest begin again =
+    sym (drop_at (map decimal ids) more count (length-map ids decimal ∙ begin.counted))
+    ∙ ap (drop count) (sym begin.spelt ∙ again.spelt)
+    ∙ drop_at (map decimal others) rest count (length-map others decimal ∙ again.counted)
+
+-- a header's line
+pub header_row : (version at : ℕ) (words : List (List ℕ)) (row : Row) → codes "rules" ∷ words ≡ words_of row → MayStand version at row → (v : ℕ) × (row ≡ Header v) × (words ≡ decimal v ∷ []) × (1 ≤ v) × (v ≤ newest)
+header_row version at words (Header v) e stands = (v, refl, cc, stands.1, stands.2)
+header_row version at words row e stands = absurd (false≢true (ap (begin_with (codes "rules")) (sym e)))
+
+-- behind an operator its kids are left
+pub tree_row : (version at : ℕ) (words left : List (List ℕ)) (name : List ℕ) (op : Op) (count : ℕ) → words ≡ name ∷ left → name ≡ operator_name op → count ≡ kids_of op → (row : Row) → codes "t" ∷ words ≡ words_of row → MayStand version at row → (kids : List ℕ) × (row ≡ Make op kids) × BeginWith left count at kids []
+tree_row version at words left name op count taken named counted (Make other kids) e stands =
+    let name_is : operator_name other ≡ name = cc in
+    let left_is : left ≡ map decimal kids = cc in
+    let same : other ≡ op = same_operator other op (name_is ∙ named) in
+    (kids, ap (λ o. Make o kids) same, record { spelt = left_is ∙ sym (append-nil (map decimal kids)); counted = stands.1 ∙ ap kids_of same ∙ sym counted; earlier = stands.2 })
+tree_row version at words left name op count taken named counted row e stands = absurd (false≢true (ap (begin_with (codes "t")) (sym e)))
+
+pub context_row : (words : List (List ℕ)) (row : Row) → codes "c" ∷ words ≡ words_of row → (row ≡ CtxNil) × (words ≡ codes "nil" ∷ [])
+context_row words CtxNil e = (refl, cc)
+context_row words row e = absurd (false≢true (ap (begin_with (codes "c")) (sym e)))
+
+-- behind a rule its parts are left, and behind them its premises
+pub node_row : (version at : ℕ) (words left : List (List ℕ)) (name : List ℕ) (rule : RuleName) (a b : ℕ) → words ≡ name ∷ left → name ≡ rule_name rule → a ≡ length (kinds_of rule) → b ≡ premises_of rule → (row : Row) → codes "n" ∷ words ≡ words_of row → MayStand version at row → (parts premises : List ℕ) × (row ≡ Node rule parts premises) × BeginWith left a at parts (map decimal premises) × BeginWith (map decimal premises) b at premises []
+node_row version at words left name rule a b taken named part_count premise_count (Node other parts premises) e stands =
+    let name_is : rule_name other ≡ name = cc in
+    let left_is : left ≡ map decimal parts ++ map decimal premises = cc in
+    let same : other ≡ rule = same_rule other rule (name_is ∙ named) in (
+      parts,
+      premises,
+      ap (λ r. Node r parts premises) same,
+      record { spelt = left_is; counted = stands.1 ∙ ap (λ r. length (kinds_of r)) same ∙ sym part_count; earlier = stands.3 },
+      record { spelt = sym (append-nil (map decimal premises)); counted = stands.2 ∙ ap premises_of same ∙ sym premise_count; earlier = stands.4 },
+    )
+node_row version at words left name rule a b taken named part_count premise_count row e stands = absurd (false≢true (ap (begin_with (codes "n")) (sym e)))
+
+pub root_row : (words : List (List ℕ)) (row : Row) → codes "r" ∷ words ≡ words_of row → (node : ℕ) × (row ≡ Root node) × (words ≡ decimal node ∷ [])
+root_row words (Root node) e = (node, refl, cc)
+root_row words row e = absurd (false≢true (ap (begin_with (codes "r")) (sym e)))

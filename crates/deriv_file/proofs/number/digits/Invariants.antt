@@ -1,0 +1,5 @@
+use Rattle.deriv_file.proofs.NumberLemmas.{DigitsBefore}
+use Rattle.deriv_file.proofs.number.digits.Given as goal
+
+abbrev pub invariant-loop-byte : goal.invariant-loop-byte
+invariant-loop-byte l = DigitsBefore l.word l.byte-index l.value

@@ -1,0 +1,5 @@
+pub mod Spelling
+pub mod Lines
+pub mod Words
+pub mod Reading
+pub mod Reader

@@ -1,0 +1,144 @@
+//! The row that a line spells.
+
+ghost use Rattle.std.specs.Prelude.{◌≡◌, ◌≤◌, ◌∷◌, IfOk, IfSome, IfNone, codes};
+ghost use Rattle.std.specs.Option.{SomeIff};
+ghost use Rattle.std.specs.Io.BufRead.{take_through, drop_through};
+ghost use Rattle.deriv_file.specs.Spelling.{newest, Spells};
+ghost use Rattle.deriv_file.specs.Words.{line_words, Reads};
+ghost use Rattle.deriv_file.specs.declared.row.Row.{Row};
+
+use crate::number::number;
+use crate::row::{NEWEST, Place, Row};
+use crate::words::{Words, split_at_first};
+use std::alloc::{AllocError, Global};
+use theory::{count_parts, count_premises, kid_count, op_of, rule_of};
+
+/// The row that the first line of the bytes spells at a place, with the bytes behind the line, if it spells one.
+pub(crate) fn first_row(
+    alloc: Global,
+    bytes: &[u8],
+    place: Place,
+) -> Result<Option<(Row, &[u8])>, AllocError>
+    ensures some { IfOk result (λ found. IfSome found
+        (λ first. Spells place.version place.at (take_through 10 bytes.now) first.0 × (first.1.now ≡ drop_through 10 bytes.now))) }
+    ensures none { IfOk result (λ found. IfNone found
+        ((row : Row) → Spells place.version place.at (take_through 10 bytes.now) row → ⊥)) }
+{
+    let Some((line, rest)) = split_at_first(bytes, b'\n') else {
+        return Ok(None);
+    };
+    match row_of(alloc, line, place)? {
+        Some(row) => Ok(Some((row, rest))),
+        None => Ok(None),
+    }
+}
+
+/// The row that a line without its newline spells at a place, if any.
+fn row_of(alloc: Global, line: &[u8], place: Place) -> Result<Option<Row>, AllocError>
+    ensures { IfOk result (Reads place.version place.at (line_words line.now)) }
+{
+    let mut words = Words::new(line);
+    let Some(kind) = words.take() else {
+        return Ok(None);
+    };
+    match kind {
+        b"rules" => Ok(header(&mut words, place)),
+        b"t" => tree(alloc, &mut words, place),
+        b"c" => Ok(context(&mut words, place)),
+        b"n" => node(alloc, &mut words, place),
+        b"r" => Ok(root(&mut words, place)),
+        _ => Ok(None),
+    }
+}
+
+/// The number as a version of the rules, if files may have that one.
+fn known(version: u64) -> Option<u32>
+    ensures { SomeIff result ((1 ≤ version) × (version ≤ newest)) version }
+{
+    if (1..=u64::from(NEWEST)).contains(&version) {
+        Some(version as u32)
+    } else {
+        None
+    }
+}
+
+/// The rest of a line `rules V`.
+fn header(words: &mut Words<'_>, place: Place) -> Option<Row>
+    ensures { Reads place.version place.at (codes "rules" ∷ words.old) result }
+{
+    let version = known(number(words.take()?)?)?;
+    if place.at == 0 && words.is_empty() {
+        Some(Row::Header(version))
+    } else {
+        None
+    }
+}
+
+/// The rest of a line `t OP K1 .. Kn`.
+fn tree(alloc: Global, words: &mut Words<'_>, place: Place) -> Result<Option<Row>, AllocError>
+    ensures { IfOk result (Reads place.version place.at (codes "t" ∷ words.old)) }
+{
+    let Some(name) = words.take() else {
+        return Ok(None);
+    };
+    let Some(op) = op_of(name, place.version) else {
+        return Ok(None);
+    };
+    let Some(kids) = words.numbers(alloc, kid_count(op), place.at)? else {
+        return Ok(None);
+    };
+    if !words.is_empty() {
+        return Ok(None);
+    }
+    Ok(Some(Row::Make(op, kids)))
+}
+
+/// The rest of a line `c nil`.
+fn context(words: &mut Words<'_>, place: Place) -> Option<Row>
+    ensures { Reads place.version place.at (codes "c" ∷ words.old) result }
+{
+    match words.take()? {
+        b"nil" => {
+            if words.is_empty() {
+                Some(Row::CtxNil)
+            } else {
+                None
+            }
+        }
+        _ => None,
+    }
+}
+
+/// The rest of a line `n RULE P1 .. Pa Q1 .. Qb`.
+fn node(alloc: Global, words: &mut Words<'_>, place: Place) -> Result<Option<Row>, AllocError>
+    ensures { IfOk result (Reads place.version place.at (codes "n" ∷ words.old)) }
+{
+    let Some(name) = words.take() else {
+        return Ok(None);
+    };
+    let Some(rule) = rule_of(name, place.version) else {
+        return Ok(None);
+    };
+    let Some(parts) = words.numbers(alloc, count_parts(rule), place.at)? else {
+        return Ok(None);
+    };
+    let Some(premises) = words.numbers(alloc, count_premises(rule), place.at)? else {
+        return Ok(None);
+    };
+    if !words.is_empty() {
+        return Ok(None);
+    }
+    Ok(Some(Row::Node(rule, parts, premises)))
+}
+
+/// The rest of a line `r N`.
+fn root(words: &mut Words<'_>, place: Place) -> Option<Row>
+    ensures { Reads place.version place.at (codes "r" ∷ words.old) result }
+{
+    let node = words.earlier(place.at)?;
+    if words.is_empty() {
+        Some(Row::Root(node))
+    } else {
+        None
+    }
+}

@@ -1,0 +1,42 @@
+//! The rows of a derivation file.
+
+ghost use Rattle.std.specs.Prelude.{◌≡◌};
+ghost use Rattle.deriv_file.specs.Spelling.{version_after};
+
+use crate::ids::Ids;
+use theory::{Op, RuleName};
+
+/// The newest version of the rules that files may have. The oldest is 1.
+pub const NEWEST: u32 = 1;
+
+/// A row: one variant for each kind of line. A row names others by their numbers; rows are counted from 0.
+#[derive(Debug, Drop)]
+pub enum Row {
+    /// `rules V`: the version of the rules.
+    Header(u32),
+    /// `t OP K1 .. Kn`: an operator with its kids.
+    Make(Op, Ids),
+    /// `c nil`: the empty context.
+    CtxNil,
+    /// `n RULE P1 .. Pa Q1 .. Qb`: an instance of a rule with its parts and its premises.
+    Node(RuleName, Ids, Ids),
+    /// `r N`: a node is a root.
+    Root(u64),
+}
+
+/// Where a row stands: its number, and the version of the rules there.
+#[derive(Clone, Copy, Debug, PartialEq, Eq)]
+pub(crate) struct Place {
+    pub(crate) at: u64,
+    pub(crate) version: u32,
+}
+
+/// The version of the rules behind a row.
+pub(crate) fn version_after(version: u32, row: &Row) -> u32
+    ensures { result ≡ version_after version row.now }
+{
+    match row {
+        Row::Header(version) => *version,
+        Row::Make(_, _) | Row::CtxNil | Row::Node(_, _, _) | Row::Root(_) => version,
+    }
+}

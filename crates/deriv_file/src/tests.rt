@@ -1,0 +1,149 @@
+//! The worked rows, lines that spell no row, and what is written.
+
+use crate::{Next, RowReader, write_row};
+use std::alloc::{AllocError, Global};
+use std::process::Abort;
+use std::test::Fail;
+
+// A whole file: each line with its row.
+const FILE: [(&str, &str); 13] = [
+    ("rules 1", "Header(1)"),
+    ("c nil", "CtxNil"),
+    ("n ctx.nil", "Node(Contexts(CtxNil), [], [])"),
+    ("n nat.u 1 2", "Node(Naturals(NatU), [1], [2])"),
+    ("t nat", "Make(Nat, [])"),
+    ("n ty.u 1 4 3", "Node(Universe(TyU), [1, 4], [3])"),
+    ("r 5", "Root(5)"),
+    ("t zero", "Make(Zero, [])"),
+    ("n zero 1 2", "Node(Naturals(Zero), [1], [2])"),
+    ("n suc 1 7 8", "Node(Naturals(Suc), [1, 7], [8])"),
+    ("t suc 7", "Make(Suc, [7])"),
+    ("n suc 1 10 9", "Node(Naturals(Suc), [1, 10], [9])"),
+    ("r 11", "Root(11)"),
+];
+
+#[test]
+fn reads_and_writes_rows(rt: HostRuntime) -> Result<(), Fail> {
+    let alloc = rt.alloc();
+    let mut bytes: Vec<u8> = Vec::new(alloc);
+    for (line, _) in FILE {
+        bytes.extend_from_slice(line.as_bytes())?;
+        bytes.push(b'\n')?;
+    }
+    let mut written: Vec<u8> = Vec::new(alloc);
+    let mut reader = RowReader::new(&bytes);
+    for (line, want) in FILE {
+        match reader.next(alloc)? {
+            Next::Row(row) => {
+                assert_eq!(rt; format!(in alloc; "{row:?}")?.as_str(), want, "at {line}");
+                write_row(&row, &mut written)?;
+            }
+            answer => assert_eq!(rt;
+                format!(in alloc; "{answer:?}")?.as_str(),
+                want,
+                "at {line}"
+            ),
+        }
+    }
+    for _ in 0..2 {
+        let end = reader.next(alloc)?;
+        assert_eq!(rt; format!(in alloc; "{end:?}")?.as_str(), "End");
+    }
+    assert_eq!(rt; written.as_slice(), bytes.as_slice());
+    Ok(())
+}
+
+// Lines that spell no row behind `rules 1` and two lines `c nil`, so at row 3.
+const BAD: [&[u8]; 44] = [
+    b"\n",
+    b" \n",
+    b"c\n",
+    b"c  nil\n",
+    b" c nil\n",
+    b"c nil \n",
+    b"c nil\r\n",
+    b"c\tnil\n",
+    b"c nil",
+    b"c nil 1\n",
+    b"c nik\n",
+    b"C nil\n",
+    b"c nil\0\n",
+    b"c nil\xff\n",
+    b"\0\n",
+    b"\xff\n",
+    b"x 1 2\n",
+    b"r\n",
+    b"r 07\n",
+    b"r 00\n",
+    b"r +1\n",
+    b"r -1\n",
+    b"r 1_\n",
+    b"r 0x1\n",
+    b"r 1 2\n",
+    b"r 3\n",
+    b"r 4\n",
+    b"r 18446744073709551615\n",
+    b"r 18446744073709551616\n",
+    b"r 18446744073709551617\n",
+    b"r 99999999999999999999999999999999999999999999999999\n",
+    b"t\n",
+    b"t suc\n",
+    b"t suc 1 2\n",
+    b"t suc 3\n",
+    b"t nat 1\n",
+    b"t pi 1 2\n",
+    b"t nope\n",
+    b"t SUC 1\n",
+    b"n\n",
+    b"n pi.u 1 2\n",
+    b"n nat.u 1\n",
+    b"n nat.u 1 2 2\n",
+    b"rules 1\n",
+];
+
+// Lines that are no header, at row 0.
+const BAD_HEADERS: [&[u8]; 8] = [
+    b"rules 1",
+    b"rules 0\n",
+    b"rules 2\n",
+    b"rules 01\n",
+    b"rules 1 1\n",
+    b"rules  1\n",
+    b"rules\n",
+    b"rules 4294967297\n",
+];
+
+fn is_bad(answer: &Next, row: u64) -> bool {
+    matches!(answer, Next::BadSpelling(bad) if *bad == row)
+}
+
+fn refuses(
+    rt: &impl Abort,
+    alloc: Global,
+    front: &[u8],
+    row: u64,
+    line: &[u8],
+) -> Result<(), AllocError> {
+    let mut bytes = Vec::from_slice(alloc, front)?;
+    bytes.extend_from_slice(line)?;
+    let mut reader = RowReader::new(&bytes);
+    for _ in 0..row {
+        assert!(rt; matches!(&reader.next(alloc)?, Next::Row(_)));
+    }
+    for _ in 0..2 {
+        assert!(rt; is_bad(&reader.next(alloc)?, row), "at {line:?}");
+    }
+    Ok(())
+}
+
+#[test]
+fn refuses_other_lines(rt: HostRuntime) -> Result<(), Fail> {
+    let alloc = rt.alloc();
+    for line in BAD {
+        refuses(&rt, alloc, b"rules 1\nc nil\nc nil\n", 3, line)?;
+    }
+    for line in BAD_HEADERS {
+        refuses(&rt, alloc, b"", 0, line)?;
+    }
+    Ok(())
+}
