@@ -1,0 +1,11 @@
+pub mod Members
+pub mod Within
+pub mod Exact
+pub mod Ordered
+pub mod Truth
+pub mod Reduced
+pub mod Unique
+pub mod Searching
+pub mod Seeking
+pub mod Merging
+pub mod Normal

@@ -1,0 +1,2 @@
+pub mod Antichains
+pub mod Reductions
