@@ -107,7 +107,7 @@ entry-later xs ys kept (entry.Node claim) some =
     ap (one (λ J. Some (Concludes J))) (claimed-later (slice_get xs) (slice_get ys) kept claim (node_some (claimed (slice_get xs) claim) some))
 entry-later xs ys kept entry.Nothing some = refl
 
-both_true : (a b : Bool) → (a && b) ≡ true → (a ≡ true) × (b ≡ true)
+pub both_true : (a b : Bool) → (a && b) ≡ true → (a ≡ true) × (b ≡ true)
 both_true true b e = (refl, e)
 both_true false b e = cc
 

@@ -6,3 +6,4 @@ pub mod ClaimLaws
 pub mod FiledLaws
 pub mod NamedLaws
 pub mod NodeLaws
+pub mod RowLaws

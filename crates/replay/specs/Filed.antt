@@ -5,6 +5,8 @@ use Rattle.theory.specs.Judgements.{Judgement, TreeRule}
 use Rattle.theory.specs.Things.{Thing, one}
 use Rattle.rules.specs.Claims.{claimed}
 use Rattle.derivation.specs.Meanings.{Meaning, Means, Concludes, Nothing}
+use Rattle.deriv_file.specs.declared.row.Row.{Row}
+use Rattle.derivation.specs.Right.{RightRow}
 use Rattle.replay.specs.declared.entry.Entry.{Entry}
 use Rattle.replay.specs.declared.entry.Entry.TheVariants as entry
 
@@ -24,3 +26,8 @@ AllFiled xs entries = list_all (λ e. is_some (entry_meaning xs e)) entries ≡ 
 -- the premises that a rule wants
 abbrev pub wants_of : Option TreeRule → Option (List Judgement)
 wants_of = one (λ r. Some r.wants)
+
+-- the entry of a row behind rows with these meanings, if the row is right
+abbrev pub EntryIs : List Meaning → List Thing → Row → Option Entry → Type 0
+EntryIs before xs row None = (m : Meaning) → RightRow before row m → ⊥
+EntryIs before xs row (Some e) = (m : Meaning) × RightRow before row m × (entry_meaning xs e ≡ Some m)

@@ -3,3 +3,4 @@ pub mod Shown
 pub mod Pairs
 pub mod Filed
 pub mod Named
+pub mod Meant

@@ -8,5 +8,6 @@ mod compare;
 mod entry;
 mod named;
 mod node;
+mod rows;
 mod store;
 mod stored;

@@ -1,0 +1,34 @@
+use Rattle.std.proofs.Common.{rules, ◌≡◌, ◌<◌, ℕ, length, slice_get, IfOk, ◌++◌, ◌∷◌, [], true, false, ◌+◌, ◌-◌, ◌*◌, ◌≤◌, ◌/◌, ◌%◌, Bool, nat_eq, nat_lt, List, slice_index_or, slice_set, bit_and, bit_or, Fits, w8, w32, w64, Bor, MutBor, Some, refl, sym, ◌∙◌, ap}
+use Rattle.std.specs.Result.{is_ok}
+use Rattle.replay.specs.Filed.{filed, AllFiled, EntryIs}
+use Rattle.replay.specs.Shown.{shown}
+use Rattle.replay.specs.Meant.{meant_by}
+use Rattle.replay.proofs.FiledLaws.{all-later, filed-later}
+use Rattle.replay.proofs.RowLaws.{filed_push, all_pushed}
+use Rattle.replay.proofs.rows.Rows.add.Goals as goal
+
+pub invariant_of-self : goal.invariant_of-self
+invariant_of-self c = record { filed = all-later (shown c.args.self.now.store) (shown c.entry_of.new.store) c.entry_of.ensures.kept c.args.self.now.entries.items c.args.self.now.filed }
+
+pub invariant_of-self-in_default : goal.invariant_of-self-in_default
+invariant_of-self-in_default c = record { filed = all-later (shown c.args.self.now.store) (shown c.entry_of.new.store) c.entry_of.ensures.kept c.args.self.now.entries.items c.args.self.now.filed }
+
+pub invariant_of-self-2 : goal.invariant_of-self-2
+invariant_of-self-2 c =
+    let xs = shown c.args.self.now.store in
+    let ys = shown c.entry_of.new.store in
+    let es = c.args.self.now.entries.items in
+    let there : EntryIs (filed xs c.deref.result.now) ys c.args.row.now (Some c.in-Some.entry) = rw c.in-Some.is at c.in_ok-entry.ensures.entry in
+    record { filed = all_pushed (is_ok c.push.result) ys es c.push.new.self.items c.in-Some.entry there.0 (all-later xs ys c.entry_of.ensures.kept es c.args.self.now.filed) there.2 c.push.ensures.items }
+
+pub returns-clause-right : goal.returns-clause-right
+returns-clause-right c =
+    let xs = shown c.args.self.now.store in
+    let ys = shown c.entry_of.new.store in
+    let es = c.args.self.now.entries.items in
+    let there : EntryIs (filed xs c.deref.result.now) ys c.args.row.now (Some c.in-Some.entry) = rw c.in-Some.is at c.in_ok-entry.ensures.entry in
+    λ yes. (
+      there.0,
+      rw c.deref.ensures.value at there.1,
+      ap (filed ys) c.in_ok-push.ensures.items ∙ filed_push ys es c.in-Some.entry there.0 there.2 ∙ ap (λ ms. ms ++ there.0 ∷ []) (filed-later xs ys c.entry_of.ensures.kept es c.args.self.now.filed),
+    )
