@@ -9,7 +9,7 @@ use Rattle.theory.specs.declared.op.Op.{Op}
 use Rattle.theory.specs.declared.rule.RuleName.{RuleName}
 use Rattle.deriv_file.specs.declared.row.Row.TheVariants.{Make, Node}
 use Rattle.deriv_file.specs.Spelling.{spelled}
-use Rattle.deriv_file.specs.Words.{spaced, Extends}
+use Rattle.deriv_file.specs.Writing.{spaced, Extends}
 
 -- behind the first word each has its space in front
 joined : (word : List ℕ) (words : List (List ℕ)) → join_with_byte 32 (word ∷ words) ≡ word ++ flat_map (λ w. 32 ∷ w) words

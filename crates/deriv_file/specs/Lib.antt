@@ -3,3 +3,4 @@ pub mod Lines
 pub mod Words
 pub mod Reading
 pub mod Reader
+pub mod Writing

@@ -1,9 +1,10 @@
 -- The words of a line, and what is read from them.
-use Rattle.std.specs.Prelude.{◌≡◌, ℕ, List, [], ◌∷◌, ◌++◌, map, length, take, decimal, ◌==◌, Option, Some, None}
-use Rattle.std.specs.List.{All, slice_split, flat_map}
+use Rattle.std.specs.Prelude.{◌≡◌, ℕ, List, [], ◌++◌, map, length, decimal, ◌==◌, Option, Some, None}
+use Rattle.std.specs.List.{All, slice_split}
+use Rattle.std.specs.Io.BufRead.{take_through, drop_through}
 use denote.Ref.{Bor}
 use Rattle.deriv_file.specs.declared.row.Row.{Row}
-use Rattle.deriv_file.specs.Spelling.{words_of, Earlier, MayStand}
+use Rattle.deriv_file.specs.Spelling.{words_of, Earlier, MayStand, Spells}
 
 -- the words between the spaces of a line
 abbrev pub line_words : List ℕ → List (List ℕ)
@@ -20,15 +21,14 @@ pub record BeginWith (words : List (List ℕ)) (count at : ℕ) (ids : List ℕ)
   pub counted : length ids ≡ count
   pub earlier : All (Earlier at) ids
 
--- what the words of a line are at a place: those of a row, or of none
+-- what is read of the words of a line at a place: the row that has them, or nothing where none has
 abbrev pub Reads : ℕ → ℕ → List (List ℕ) → Option Row → Type 0
 Reads version at words None = (row : Row) → words ≡ words_of row → MayStand version at row → ⊥
 Reads version at words (Some row) = (words ≡ words_of row) × MayStand version at row
 
--- numbers with a space in front of each
-abbrev pub spaced : List ℕ → List ℕ
-spaced numbers = flat_map (λ n. 32 ∷ decimal n) numbers
-
--- the new bytes begin with the old ones
-abbrev pub Extends : List ℕ → List ℕ → Type 0
-Extends old new = take (length old) new ≡ old
+-- what is read of bytes at a place: the row that their first line spells, with the bytes behind it, or nothing where it
+-- spells none
+abbrev pub ReadsLine : ℕ → ℕ → List ℕ → Option (Row × Bor (List ℕ)) → Type 0
+ReadsLine version at bytes None = (row : Row) → Spells version at (take_through 10 bytes) row → ⊥
+ReadsLine version at bytes (Some first) =
+    Spells version at (take_through 10 bytes) first.0 × (first.1.now ≡ drop_through 10 bytes)

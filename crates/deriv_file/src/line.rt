@@ -1,11 +1,9 @@
 //! The row that a line spells.
 
-ghost use Rattle.std.specs.Prelude.{◌≡◌, ◌≤◌, ◌∷◌, IfOk, IfSome, IfNone, codes};
+ghost use Rattle.std.specs.Prelude.{◌≡◌, ◌≤◌, ◌∷◌, IfOk, codes};
 ghost use Rattle.std.specs.Option.{SomeIff};
-ghost use Rattle.std.specs.Io.BufRead.{take_through, drop_through};
-ghost use Rattle.deriv_file.specs.Spelling.{newest, Spells};
-ghost use Rattle.deriv_file.specs.Words.{line_words, Reads};
-ghost use Rattle.deriv_file.specs.declared.row.Row.{Row};
+ghost use Rattle.deriv_file.specs.Spelling.{newest};
+ghost use Rattle.deriv_file.specs.Words.{line_words, Reads, ReadsLine};
 
 use crate::number::number;
 use crate::row::{NEWEST, Place, Row};
@@ -19,10 +17,7 @@ pub(crate) fn first_row(
     bytes: &[u8],
     place: Place,
 ) -> Result<Option<(Row, &[u8])>, AllocError>
-    ensures some { IfOk result (λ found. IfSome found
-        (λ first. Spells place.version place.at (take_through 10 bytes.now) first.0 × (first.1.now ≡ drop_through 10 bytes.now))) }
-    ensures none { IfOk result (λ found. IfNone found
-        ((row : Row) → Spells place.version place.at (take_through 10 bytes.now) row → ⊥)) }
+    ensures { IfOk result (ReadsLine place.version place.at bytes.now) }
 {
     let Some((line, rest)) = split_at_first(bytes, b'\n') else {
         return Ok(None);

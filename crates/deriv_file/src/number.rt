@@ -20,7 +20,8 @@ pub(crate) fn number(word: &[u8]) -> Option<u64>
 
 /// The number that the digits are, if all are digits and it is below 2^64.
 fn digits(word: &[u8]) -> Option<u64>
-    ensures { SomeIff result (AllDigits 10 word.now × (digits_value 10 word.now < 2 ^ 64)) (digits_value 10 word.now) }
+    ensures { let value = digits_value 10 word.now in
+        SomeIff result (AllDigits 10 word.now × (value < 2 ^ 64)) value }
 {
     let mut value: u64 = 0;
     for byte in word {

@@ -25,7 +25,7 @@ pub enum Row {
 }
 
 /// Where a row stands: its number, and the version of the rules there.
-#[derive(Clone, Copy, Debug, PartialEq, Eq)]
+#[derive(Clone, Copy)]
 pub(crate) struct Place {
     pub(crate) at: u64,
     pub(crate) version: u32,

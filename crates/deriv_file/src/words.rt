@@ -49,7 +49,8 @@ impl<'a> Words<'a> {
 
     /// Takes the next word, if one is left.
     pub(crate) fn take(&mut self) -> Option<&'a [u8]>
-        ensures { MatchOption result ((self.old ≡ []) × (self.new ≡ [])) (λ word. self.old ≡ word.now ∷ self.new) }
+        ensures { MatchOption result ((self.old ≡ []) × (self.new ≡ []))
+            (λ word. self.old ≡ word.now ∷ self.new) }
     {
         let rest = self.rest?;
         match split_at_first(rest, b' ') {
@@ -73,7 +74,8 @@ impl<'a> Words<'a> {
     /// Takes the next word, if it is the number of a row in front of row `at`.
     pub(crate) fn earlier(&mut self, at: u64) -> Option<u64>
         ensures some { IfSome result (λ n. (self.old ≡ decimal n ∷ self.new) × (n < at)) }
-        ensures none { IfNone result ((n : ℕ) (more : List (List ℕ)) → self.old ≡ decimal n ∷ more → Earlier at n → ⊥) }
+        ensures none { IfNone result
+            ((n : ℕ) (more : List (List ℕ)) → self.old ≡ decimal n ∷ more → Earlier at n → ⊥) }
     {
         let id = number(self.take()?)?;
         if id < at { Some(id) } else { None }
@@ -86,8 +88,10 @@ impl<'a> Words<'a> {
         count: u8,
         at: u64,
     ) -> Result<Option<Ids>, AllocError>
-        ensures some { IfOk result (λ found. IfSome found (λ ids. BeginWith self.old count at ids self.new)) }
-        ensures none { IfOk result (λ found. IfNone found ((ids : List ℕ) (more : List (List ℕ)) → BeginWith self.old count at ids more → ⊥)) }
+        ensures some { IfOk result
+            (λ found. IfSome found (λ ids. BeginWith self.old count at ids self.new)) }
+        ensures none { IfOk result (λ found. IfNone found
+            ((ids : List ℕ) (more : List (List ℕ)) → BeginWith self.old count at ids more → ⊥)) }
     {
         let mut ids = Ids::with_capacity(alloc, count as usize)?;
         for _ in 0..count {

@@ -3,7 +3,7 @@
 ghost use Rattle.std.specs.Prelude.{◌≡◌, ◌∷◌, ◌++◌, [], OnOk, OnErr, decimal};
 ghost use Rattle.std.specs.List.{flat_map};
 ghost use Rattle.deriv_file.specs.Spelling.{spelled};
-ghost use Rattle.deriv_file.specs.Words.{spaced, Extends};
+ghost use Rattle.deriv_file.specs.Writing.{spaced, Extends};
 
 use crate::row::Row;
 use itoa::Buffer;
@@ -53,8 +53,8 @@ fn append_line(
     second: &[u64],
     into: &mut Vec<u8>,
 ) -> Result<(), AllocError>
-    ensures ok { OnOk result
-        (into.new.items ≡ into.old.items ++ (kind.now ++ name.now ++ spaced first.now ++ spaced second.now ++ 10 ∷ [])) }
+    ensures ok { OnOk result (into.new.items
+        ≡ into.old.items ++ (kind.now ++ name.now ++ spaced first.now ++ spaced second.now ++ 10 ∷ [])) }
     ensures err { OnErr result (Extends into.old.items into.new.items) }
 {
     into.extend_from_slice(kind)?;

@@ -1,6 +1,6 @@
 use Rattle.std.proofs.Common.{◌≡◌, ◌++◌, append_assoc, subst}
 use Rattle.std.proofs.lemmas.Result.{err_from_is_err_and}
-use Rattle.deriv_file.specs.Words.{Extends, spaced}
+use Rattle.deriv_file.specs.Writing.{Extends, spaced}
 use Rattle.deriv_file.proofs.WriteLemmas.{extends_front}
 use Rattle.deriv_file.proofs.write.append_line.Goals as goal
 

@@ -1,5 +1,5 @@
 use Rattle.std.proofs.Common.{◌≡◌, ◌++◌, take}
-use Rattle.deriv_file.specs.Words.{spaced}
+use Rattle.deriv_file.specs.Writing.{spaced}
 use Rattle.deriv_file.proofs.write.append_numbers.Given as goal
 
 -- the numbers so far
