@@ -7,3 +7,4 @@ pub mod FiledLaws
 pub mod NamedLaws
 pub mod NodeLaws
 pub mod RowLaws
+pub mod FileLaws

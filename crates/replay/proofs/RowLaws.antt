@@ -16,6 +16,8 @@ use Rattle.derivation.specs.Meanings.{Meaning, Means, Concludes, Nothing, thing_
 use Rattle.derivation.specs.Right.{RightNode, RightRow}
 use Rattle.replay.specs.declared.entry.Entry.{Entry}
 use Rattle.replay.specs.declared.rows.TheConstants.{TERMS}
+use Rattle.std.specs.Prelude.{Result, Ok, Err}
+use Rattle.std.specs.Result.{OnErr}
 use Rattle.std.specs.List.{list_all}
 use Rattle.replay.specs.Filed.{filed, AllFiled, EntryIs, entry_meaning}
 use Rattle.replay.proofs.FiledLaws.{both_true}
@@ -158,3 +160,11 @@ all_push xs (x ∷ es) e m all is =
 pub all_pushed : (b : Bool) (xs : List Thing) (es next : List Entry) (e : Entry) (m : Meaning) → AllFiled xs es → entry_meaning xs e ≡ Some m → next ≡ (if b then es ++ e ∷ [] else es) → AllFiled xs next
 all_pushed true xs es next e m all is n = rw n (all_push xs es e m all is)
 all_pushed false xs es next e m all is n = rw n all
+
+pub none_pushed : (b : Bool) (es next : List Entry) (e : Entry) → b ≡ false → next ≡ (if b then es ++ e ∷ [] else es) → next ≡ es
+none_pushed b es next e off n = rw off at n
+
+-- where there is want of memory
+pub on_err : {T E P : Type 0} (r : Result T E) → P → OnErr r P
+on_err (Ok x) p = tt
+on_err (Err e) p = p

@@ -4,3 +4,4 @@ pub mod Pairs
 pub mod Filed
 pub mod Named
 pub mod Meant
+pub mod Verdicts

@@ -6,8 +6,11 @@
 mod claims;
 mod compare;
 mod entry;
+mod judging;
 mod named;
 mod node;
 mod rows;
 mod store;
 mod stored;
+
+pub use judging::{Verdict, judge};

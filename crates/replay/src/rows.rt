@@ -98,7 +98,7 @@ pub struct Rows {
 }
 
 impl Rows {
-    ghost use Rattle.std.specs.Prelude.{◌≡◌, ◌++◌, ◌∷◌, ℕ, [], length, IfOk, true, false};
+    ghost use Rattle.std.specs.Prelude.{◌≡◌, ◌++◌, ◌∷◌, ℕ, [], length, IfOk, OnErr, true, false};
     ghost use Rattle.deriv_file.specs.Spelling.{MayStand};
     ghost use Rattle.derivation.specs.Meanings.{Meaning};
     ghost use Rattle.derivation.specs.Right.{RightRow};
@@ -120,11 +120,13 @@ impl Rows {
         self.entries.len()
     }
 
-    /// Adds a row that may stand at its place, if it is right. The answer says whether it is.
+    /// Adds a row that may stand at its place, if it is right. The answer says whether it is. Else, and after want of memory, the
+    /// rows are as before.
     pub fn add(&mut self, alloc: Global, row: &Row) -> Result<bool, AllocError>
         requires { (version : ℕ) × MayStand version (length (meant_by self.old)) row.now }
         ensures right { IfOk result (λ right. right ≡ true → (m : Meaning) × RightRow (meant_by self.old) row.now m × (meant_by self.new ≡ meant_by self.old ++ m ∷ [])) }
-        ensures wrong { IfOk result (λ right. right ≡ false → (m : Meaning) → RightRow (meant_by self.old) row.now m → ⊥) }
+        ensures wrong { IfOk result (λ right. right ≡ false → (meant_by self.new ≡ meant_by self.old) × ((m : Meaning) → RightRow (meant_by self.old) row.now m → ⊥)) }
+        ensures err { OnErr result (meant_by self.new ≡ meant_by self.old) }
     {
         let Some(entry) = entry_of(alloc, &mut self.store, &self.entries, row)? else {
             return Ok(false);

@@ -1,10 +1,10 @@
-use Rattle.std.proofs.Common.{rules, ◌≡◌, ◌<◌, ℕ, length, slice_get, IfOk, ◌++◌, ◌∷◌, [], true, false, ◌+◌, ◌-◌, ◌*◌, ◌≤◌, ◌/◌, ◌%◌, Bool, nat_eq, nat_lt, List, slice_index_or, slice_set, bit_and, bit_or, Fits, w8, w32, w64, Bor, MutBor, Some, refl, sym, ◌∙◌, ap}
+use Rattle.std.proofs.Common.{rules, ◌≡◌, ◌<◌, ℕ, length, slice_get, IfOk, ◌++◌, ◌∷◌, [], true, false, ◌+◌, ◌-◌, ◌*◌, ◌≤◌, ◌/◌, ◌%◌, Bool, nat_eq, nat_lt, List, slice_index_or, slice_set, bit_and, bit_or, Fits, w8, w32, w64, Bor, MutBor, Some, None, refl, sym, ◌∙◌, ap}
 use Rattle.std.specs.Result.{is_ok}
 use Rattle.replay.specs.Filed.{filed, AllFiled, EntryIs}
 use Rattle.replay.specs.Shown.{shown}
 use Rattle.replay.specs.Meant.{meant_by}
 use Rattle.replay.proofs.FiledLaws.{all-later, filed-later}
-use Rattle.replay.proofs.RowLaws.{filed_push, all_pushed}
+use Rattle.replay.proofs.RowLaws.{filed_push, all_pushed, none_pushed, on_err}
 use Rattle.replay.proofs.rows.Rows.add.Goals as goal
 
 pub invariant_of-self : goal.invariant_of-self
@@ -32,3 +32,23 @@ returns-clause-right c =
       rw c.deref.ensures.value at there.1,
       ap (filed ys) c.in_ok-push.ensures.items ∙ filed_push ys es c.in-Some.entry there.0 there.2 ∙ ap (λ ms. ms ++ there.0 ∷ []) (filed-later xs ys c.entry_of.ensures.kept es c.args.self.now.filed),
     )
+
+pub returns-in_err-entry-clause-err : goal.returns-in_err-entry-clause-err
+returns-in_err-entry-clause-err c =
+    on_err c.from_residual.result (filed-later (shown c.args.self.now.store) (shown c.entry_of.new.store) c.entry_of.ensures.kept c.args.self.now.entries.items c.args.self.now.filed)
+
+pub returns-in_default-clause-wrong : goal.returns-in_default-clause-wrong
+returns-in_default-clause-wrong c =
+    let xs = shown c.args.self.now.store in
+    let ys = shown c.entry_of.new.store in
+    let none : EntryIs (filed xs c.deref.result.now) ys c.args.row.now None = rw c.in_default.is at c.in_ok-entry.ensures.entry in
+    λ no. (filed-later xs ys c.entry_of.ensures.kept c.args.self.now.entries.items c.args.self.now.filed, rw c.deref.ensures.value at none)
+
+pub returns-in_err-push-clause-err : goal.returns-in_err-push-clause-err
+returns-in_err-push-clause-err c =
+    let xs = shown c.args.self.now.store in
+    let ys = shown c.entry_of.new.store in
+    let es = c.args.self.now.entries.items in
+    on_err c.from_residual-in_err-push.result (
+      ap (filed ys) (none_pushed (is_ok c.push.result) es c.push.new.self.items c.in-Some.entry (ap is_ok c.in_err-push.was) c.push.ensures.items)
+      ∙ filed-later xs ys c.entry_of.ensures.kept es c.args.self.now.filed)

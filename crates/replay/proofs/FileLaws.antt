@@ -1,0 +1,276 @@
+-- Files whose first rows are right.
+use Rattle.std.proofs.Common.{◌≡◌, ℕ, zero, suc, ◌+◌, ◌<◌, ◌≤◌, List, [], ◌∷◌, ◌++◌, length, take, refl, sym, ◌∙◌, ap, subst, arith, append_assoc, length-append, max, Option, Some, None}
+use Rattle.std.specs.Prelude.{slice_get}
+use Rattle.std.specs.Option.{option_to_list}
+use Rattle.std.specs.Io.BufRead.{take_through, drop_through}
+use Rattle.std.proofs.lemmas.List.{take-append-le, append-nil}
+use Rattle.std.proofs.Math.Seq.{take-append-add, take-length}
+use Rattle.theory.specs.declared.rule.RuleName.{RuleName}
+use Rattle.theory.specs.Judgements.{Judgement}
+use Rattle.theory.specs.Things.{Thing, one}
+use Rattle.rules.specs.Rules.{rule_at}
+use Rattle.deriv_file.specs.declared.row.Row.{Row}
+use Rattle.deriv_file.specs.declared.row.Row.TheVariants.{Header, Make, CtxNil, Node, Root}
+use Rattle.deriv_file.specs.Spelling.{newest, MayStand, Spells, version_after}
+use Rattle.deriv_file.specs.Lines.{lines, SpellRows, version_behind}
+use Rattle.deriv_file.specs.Reading.{Reading}
+use Rattle.deriv_file.specs.Reader.{start, past, line_of, NextIs}
+use Rattle.deriv_file.specs.declared.reader.Next.TheVariants as next
+use Rattle.deriv_file.proofs.LineLemmas.{lines_step, length-drop_through-lt}
+use Rattle.deriv_file.proofs.RowsLemmas.{spell_length, spell_rows_one, spell_take, spell_push, spell_parts, version_behind_push}
+use Rattle.deriv_file.proofs.SpellingLemmas.{spells_one}
+use Rattle.replay.specs.declared.judging.Verdict.{Verdict}
+use Rattle.replay.specs.declared.judging.Verdict.TheVariants.{Yes, No}
+use Rattle.replay.specs.Verdicts.{VerdictIs}
+use Rattle.replay.specs.Meant.{count_roots}
+use Rattle.derivation.specs.Meanings.{Meaning, Nothing, conclusion_at, conclusion_of}
+use Rattle.derivation.specs.Right.{RightNode, RightRow, RightRows, Begins, Right, AllRight, FirstBad, Derives, root_of, roots_of}
+
+-- a row means one thing at most
+
+node_one : (before : List Meaning) (name : RuleName) (parts premises : List ℕ) (J K : Judgement) → RightNode before name parts premises J → RightNode before name parts premises K → J ≡ K
+node_one before name parts premises J K r s =
+    let xs : r.xs ≡ s.xs = the_same (sym r.parts_are ∙ s.parts_are) in
+    let rule : r.instance.rule ≡ s.instance.rule = the_same (sym r.instance.is ∙ ap (rule_at name) xs ∙ s.instance.is) in
+    r.instance.gives ∙ ap (λ t. t.gives) rule ∙ sym s.instance.gives
+  where
+    the_same : {A : Type 0} {x y : A} → Some x ≡ Some y → x ≡ y
+    the_same e = cc
+
+row_one : (before : List Meaning) (row : Row) (m n : Meaning) → RightRow before row m → RightRow before row n → m ≡ n
+row_one [] (Header version) m n r s = r ∙ sym s
+row_one [] (Make op kids) m n r s = absurd r
+row_one [] CtxNil m n r s = absurd r
+row_one [] (Node rule parts premises) m n r s = absurd r
+row_one [] (Root node) m n r s = absurd r
+row_one (b ∷ before) (Header version) m n r s = absurd r
+row_one (b ∷ before) (Make op kids) m n r s = let e = sym r.1 ∙ s.1 in cc
+row_one (b ∷ before) CtxNil m n r s = r ∙ sym s
+row_one (b ∷ before) (Node rule parts premises) m n r s = let e : r.0 ≡ s.0 = node_one (b ∷ before) rule parts premises r.0 s.0 r.1 s.1 in cc
+row_one (b ∷ before) (Root node) m n r s = r.2 ∙ sym s.2
+
+rows_one : (before : List Meaning) (rows : List Row) (all also : List Meaning) → RightRows before rows all → RightRows before rows also → all ≡ also
+rows_one before [] all also r s = r ∙ sym s
+rows_one before (row ∷ rows) all also r s =
+    let m : r.0 ≡ s.0 = row_one before row r.0 s.0 r.1 s.1 in
+    rows_one (before ++ r.0 ∷ []) rows all also r.2 (subst (λ x. RightRows (before ++ x ∷ []) rows also) (sym m) s.2)
+
+right_take : (n : ℕ) (before : List Meaning) (rows : List Row) (all : List Meaning) → RightRows before rows all → (some : List Meaning) × RightRows before (take n rows) some
+right_take zero before rows all right = (before, refl)
+right_take (suc n) before [] all right = (all, right)
+right_take (suc n) before (row ∷ rows) all right =
+    let more = right_take n (before ++ right.0 ∷ []) rows all right.2 in
+    (more.0, (right.0, right.1, more.1))
+
+right_push : (before : List Meaning) (rows : List Row) (all : List Meaning) (row : Row) (m : Meaning) → RightRows before rows all → RightRow all row m → RightRows before (rows ++ row ∷ []) (all ++ m ∷ [])
+right_push before [] all row m right next = (m, rw (sym right) next, ap (λ ms. ms ++ m ∷ []) right)
+right_push before (r ∷ rows) all row m right next = (right.0, right.1, right_push (before ++ right.0 ∷ []) rows all row m right.2 next)
+
+-- the last of some rows that are right
+right_last : (before : List Meaning) (rows : List Row) (row : Row) (all : List Meaning) → RightRows before (rows ++ row ∷ []) all → (front : List Meaning) × (m : Meaning) × RightRows before rows front × RightRow front row m
+right_last before [] row all right = (before, right.0, refl, right.1)
+right_last before (r ∷ rows) row all right =
+    let more = right_last (before ++ right.0 ∷ []) rows row all right.2 in
+    (more.0, more.1, (right.0, right.1, more.2), more.3)
+
+right_length : (before : List Meaning) (rows : List Row) (all : List Meaning) → RightRows before rows all → length all ≡ length before + length rows
+right_length before [] all right = rw right (omega arith)
+right_length before (row ∷ rows) all right = omega (arith, right_length (before ++ right.0 ∷ []) rows all right.2, length-append before (right.0 ∷ []))
+
+-- the roots of right rows are as many as the root rows
+
+extends : (before : List Meaning) (rows : List Row) (all : List Meaning) → RightRows before rows all → (more : List Meaning) × (all ≡ before ++ more)
+extends before [] all right = ([], right ∙ sym (append-nil before))
+extends before (row ∷ rows) all right =
+    let e = extends (before ++ right.0 ∷ []) rows all right.2 in
+    (right.0 ∷ e.0, e.1 ∙ append_assoc before (right.0 ∷ []) e.0)
+
+place_kept : (before more : List Meaning) (k : ℕ) (J : Judgement) → conclusion_at before k ≡ Some J → conclusion_at (before ++ more) k ≡ Some J
+place_kept [] more k J e = cc
+place_kept (m ∷ before) more zero J e = e
+place_kept (m ∷ before) more (suc k) J e = place_kept before more k J e
+
+module _ (before : List Meaning) (row : Row) (m : Meaning) (rows : List Row) (all : List Meaning) (right : RightRows (before ++ m ∷ []) rows all) where
+  -- what stands in front of right rows stays there
+  conclusion_kept : (k : ℕ) (J : Judgement) → conclusion_at before k ≡ Some J → conclusion_at all k ≡ Some J
+  conclusion_kept k J e =
+      let x = extends (before ++ m ∷ []) rows all right in
+      rw (x.1 ∙ append_assoc before (m ∷ []) x.0) (place_kept before (m ∷ x.0) k J e)
+
+root_count : (before : List Meaning) (row : Row) (m : Meaning) (rows : List Row) (all : List Meaning) → RightRow before row m → RightRows (before ++ m ∷ []) rows all → length (root_of all row) + count_roots rows ≡ count_roots (row ∷ rows)
+root_count before (Header version) m rows all r right = omega arith
+root_count before (Make op kids) m rows all r right = omega arith
+root_count before CtxNil m rows all r right = omega arith
+root_count before (Node rule parts premises) m rows all r right = omega arith
+root_count [] (Root node) m rows all r right = absurd r
+root_count (b ∷ before) (Root node) m rows all r right =
+    ap (λ o. length (option_to_list o) + count_roots rows) (conclusion_kept (b ∷ before) (Root node) m rows all right node r.0 r.1)
+
+pub roots_count : (before : List Meaning) (rows : List Row) (all : List Meaning) → RightRows before rows all → length (roots_of all rows) ≡ count_roots rows
+roots_count before [] all right = refl
+roots_count before (row ∷ rows) all right =
+    let more = roots_count (before ++ right.0 ∷ []) rows all right.2 in
+    let here = root_count before row right.0 rows all right.1 right.2 in
+    length-append (root_of all row) (roots_of all rows) ∙ ap (λ n. length (root_of all row) + n) more ∙ here
+
+count_push : (rows : List Row) (row : Row) → count_roots (rows ++ row ∷ []) ≡ count_roots rows + count_roots (row ∷ [])
+count_push [] row = omega arith
+count_push (Root node ∷ rows) row = omega (arith, count_push rows row)
+count_push (Header version ∷ rows) row = count_push rows row
+count_push (Make op kids ∷ rows) row = count_push rows row
+count_push (CtxNil ∷ rows) row = count_push rows row
+count_push (Node rule parts premises ∷ rows) row = count_push rows row
+
+count_le : (rows : List Row) → count_roots rows ≤ length rows
+count_le [] = omega arith
+count_le (Root node ∷ rows) = omega (arith, count_le rows)
+count_le (Header version ∷ rows) = omega (arith, count_le rows)
+count_le (Make op kids ∷ rows) = omega (arith, count_le rows)
+count_le (CtxNil ∷ rows) = omega (arith, count_le rows)
+count_le (Node rule parts premises ∷ rows) = omega (arith, count_le rows)
+
+-- The lines in front of a reader spell rows that are right and mean that, and so many of them are roots.
+pub record Progress (bytes : List ℕ) (reading : Reading) (all : List Meaning) (roots : ℕ) : Type 0 where
+  pub done : List (List ℕ)
+  pub rows : List Row
+  pub cut : lines bytes ≡ done ++ lines reading.rest
+  pub spelt : SpellRows newest 0 done rows
+  pub right : RightRows [] rows all
+  pub at : reading.at ≡ length rows
+  pub version : reading.version ≡ version_behind newest rows
+  pub roots_are : roots ≡ count_roots rows
+
+pub at_start : (bytes : List ℕ) (reading : Reading) (all : List Meaning) → reading ≡ start bytes → all ≡ [] → Progress bytes reading all 0
+at_start bytes reading all e none = rw (e, none) (record { done = []; rows = []; cut = refl; spelt = tt; right = refl; at = refl; version = refl; roots_are = refl })
+
+pub count_is : (bytes : List ℕ) (reading : Reading) (all : List Meaning) (roots : ℕ) → Progress bytes reading all roots → (reading.at ≡ length all) × (roots ≤ length all)
+count_is bytes reading all roots p =
+    let n : length all ≡ length p.rows = omega (arith, right_length [] p.rows all p.right) in
+    (p.at ∙ sym n, omega (arith, n, p.roots_are, count_le p.rows))
+
+cut_more : (bytes rest : List ℕ) (done : List (List ℕ)) → lines bytes ≡ done ++ lines rest → 0 < length rest → lines bytes ≡ done ++ take_through 10 rest ∷ lines (drop_through 10 rest)
+cut_more bytes rest done cut some = cut ∙ ap (λ ls. done ++ ls) (lines_step rest some)
+
+-- one more right row
+pub progress : (bytes : List ℕ) (reading : Reading) (all : List Meaning) (roots : ℕ) (row : Row) (m : Meaning) → Progress bytes reading all roots → 0 < length reading.rest → Spells reading.version reading.at (line_of reading) row → RightRow all row m → Progress bytes (past reading row) (all ++ m ∷ []) (roots + count_roots (row ∷ []))
+progress bytes reading all roots row m p some spells right =
+    let line = line_of reading in
+    let place : reading.at ≡ 0 + length p.rows = omega (arith, p.at) in
+    let here : Spells (version_behind newest p.rows) (0 + length p.rows) line row = rw (p.version, place) at spells in
+    record {
+      done = p.done ++ line ∷ [];
+      rows = p.rows ++ row ∷ [];
+      cut = cut_more bytes reading.rest p.done p.cut some ∙ sym (append_assoc p.done (line ∷ []) (lines (drop_through 10 reading.rest)));
+      spelt = spell_push newest 0 p.done p.rows line row p.spelt here;
+      right = right_push [] p.rows all row m p.right right;
+      at = omega (arith, p.at, length-append p.rows (row ∷ []));
+      version = ap (λ v. version_after v row) p.version ∙ sym (version_behind_push newest p.rows row);
+      roots_are = ap (λ n. n + count_roots (row ∷ [])) p.roots_are ∙ sym (count_push p.rows row);
+    }
+
+-- the rows so far are right
+before_is_right : (bytes : List ℕ) (done more : List (List ℕ)) (rows : List Row) (all : List Meaning) → lines bytes ≡ done ++ more → SpellRows newest 0 done rows → RightRows [] rows all → (n : ℕ) → n ≤ length done → (some : List Row) × (means : List Meaning) × Begins bytes n some means
+before_is_right bytes done more rows all cut spelt right n low =
+    let front = right_take n [] rows all right in (
+      take n rows,
+      front.0,
+      record {
+        within = rw cut (omega (arith, length-append done more));
+        spelt = rw (cut, take-append-le n done more) (spell_take n newest 0 done rows spelt);
+        right = front.1;
+      },
+    )
+
+-- the row that is spelt behind some is the last of them
+last_spelt : (done : List (List ℕ)) (line : List ℕ) (rows others : List Row) → SpellRows newest 0 done rows → SpellRows newest 0 (done ++ line ∷ []) others → (row : Row) × (others ≡ rows ++ row ∷ []) × Spells (version_behind newest rows) (0 + length rows) line row
+last_spelt done line rows others spelt also =
+    let parts = spell_parts newest 0 done (line ∷ []) others also in
+    let same : parts.front ≡ rows = spell_rows_one newest 0 done parts.front rows parts.first spelt in
+    from parts.back (parts.whole ∙ ap (λ rs. rs ++ parts.back) same) (rw same at parts.next)
+  where
+    from : (back : List Row) → others ≡ rows ++ back → SpellRows (version_behind newest rows) (0 + length rows) (line ∷ []) back → (row : Row) × (others ≡ rows ++ row ∷ []) × Spells (version_behind newest rows) (0 + length rows) line row
+    from [] e spell = absurd spell
+    from (row ∷ []) e spell = (row, e, spell.0)
+    from (row ∷ r ∷ back) e spell = absurd spell.1
+
+-- the next line spells no right row
+pub bad_next : (bytes : List ℕ) (reading : Reading) (all : List Meaning) (roots : ℕ) → Progress bytes reading all roots → 0 < length reading.rest → ((row : Row) (m : Meaning) → Spells reading.version reading.at (line_of reading) row → RightRow all row m → ⊥) → FirstBad bytes reading.at
+bad_next bytes reading all roots p some none =
+    let line = line_of reading in
+    let more = lines (drop_through 10 reading.rest) in
+    let cut = cut_more bytes reading.rest p.done p.cut some in
+    let same : length p.done ≡ reading.at = spell_length newest 0 p.done p.rows p.spelt ∙ sym p.at in
+    let here : take (reading.at + 1) (lines bytes) ≡ p.done ++ line ∷ [] = ap (λ n. take (n + 1) (lines bytes)) (sym same) ∙ ap (take (length p.done + 1)) cut ∙ take-append-add p.done (line ∷ more) 1 in
+    let place : reading.at ≡ 0 + length p.rows = omega (arith, p.at) in
+    record {
+      within = rw cut (omega (arith, length-append p.done (line ∷ more)));
+      before = λ j below. before_is_right bytes p.done (line ∷ more) p.rows all cut p.spelt p.right (j + 1) (omega arith);
+      bad = λ right.
+          let spelt : SpellRows newest 0 (p.done ++ line ∷ []) right.0 = subst (λ ls. SpellRows newest 0 ls right.0) here right.2.spelt in
+          let last = last_spelt p.done line p.rows right.0 p.spelt spelt in
+          let parts = right_last [] p.rows last.0 right.1 (subst (λ rs. RightRows [] rs right.1) last.1 right.2.right) in
+          let front : parts.0 ≡ all = rows_one [] p.rows parts.0 all parts.2 p.right in
+          none last.0 parts.1 (subst (λ v. Spells v reading.at line last.0) (sym p.version) (subst (λ n. Spells (version_behind newest p.rows) n line last.0) (sym place) last.2)) (subst (λ ms. RightRow ms last.0 parts.1) front parts.3);
+    }
+
+pub bad_spelling : (bytes : List ℕ) (reading : Reading) (all : List Meaning) (roots : ℕ) → Progress bytes reading all roots → 0 < length reading.rest → ((row : Row) → Spells reading.version reading.at (line_of reading) row → ⊥) → FirstBad bytes reading.at
+bad_spelling bytes reading all roots p some none = bad_next bytes reading all roots p some (λ row m spells right. none row spells)
+
+pub bad_row : (bytes : List ℕ) (reading : Reading) (all : List Meaning) (roots : ℕ) (row : Row) → Progress bytes reading all roots → 0 < length reading.rest → Spells reading.version reading.at (line_of reading) row → ((m : Meaning) → RightRow all row m → ⊥) → FirstBad bytes reading.at
+bad_row bytes reading all roots row p some spells none = bad_next bytes reading all roots p some (λ other m also right.
+    let same : other ≡ row = spells_one reading.version reading.at (line_of reading) other row also spells in
+    none m (subst (λ r. RightRow all r m) same right))
+
+-- no byte is left
+
+pub nothing_there : (bytes : List ℕ) (reading : Reading) (all : List Meaning) (roots : ℕ) → Progress bytes reading all roots → reading.rest ≡ [] → length all ≡ 0 → FirstBad bytes 0
+nothing_there bytes reading all roots p none empty =
+    let n = (count_is bytes reading all roots p).0 in
+    let count : length (lines bytes) ≡ 0 = ap length p.cut ∙ ap (λ rest. length (p.done ++ lines rest)) none ∙ ap length (append-nil p.done) ∙ spell_length newest 0 p.done p.rows p.spelt ∙ sym p.at ∙ n ∙ empty in
+    record { within = omega arith; before = λ j below. absurd (omega arith); bad = λ right. absurd (omega (arith, count, right.2.within)) }
+
+pub all_done : (bytes : List ℕ) (reading : Reading) (all : List Meaning) (roots : ℕ) → Progress bytes reading all roots → reading.rest ≡ [] → 0 < length all → AllRight bytes × (Js : List Judgement) × Derives bytes (length all) Js × (roots ≡ length Js)
+all_done bytes reading all roots p none some =
+    let cut : lines bytes ≡ p.done = p.cut ∙ ap (λ rest. p.done ++ lines rest) none ∙ append-nil p.done in
+    let same : length p.done ≡ length p.rows = spell_length newest 0 p.done p.rows p.spelt in
+    let n : length all ≡ length p.rows = omega (arith, right_length [] p.rows all p.right) in
+    let count : length (lines bytes) ≡ length p.done = ap length cut in (
+      (omega arith, λ k below. before_is_right bytes p.done [] p.rows all (cut ∙ sym (append-nil p.done)) p.spelt p.right (k + 1) (omega arith)),
+      roots_of all p.rows,
+      record {
+        spelt = p.rows;
+        all = all;
+        begins = record { within = omega arith; spelt = subst (λ ls. SpellRows newest 0 ls p.rows) (sym (take-length (lines bytes) ∙ cut)) p.spelt; right = p.right };
+        rows_are = n;
+        roots_are = refl;
+      },
+      p.roots_are ∙ sym (roots_count [] p.rows all p.right),
+    )
+
+-- what the judge does
+
+pub next_stands : (bytes : List ℕ) (old new : Reading) (all : List Meaning) (roots : ℕ) (row : Row) → Progress bytes old all roots → NextIs old new (next.Row row) → (version : ℕ) × MayStand version (length all) row
+next_stands bytes old new all roots row p is =
+    let n = (count_is bytes old all roots p).0 in
+    (old.version, subst (λ k. MayStand old.version k row) n is.1.1)
+
+pub next_right : (bytes : List ℕ) (old new : Reading) (all more : List Meaning) (roots one : ℕ) (row : Row) → Progress bytes old all roots → NextIs old new (next.Row row) → ((m : Meaning) × RightRow all row m × (more ≡ all ++ m ∷ [])) → one ≡ count_roots (row ∷ []) → Progress bytes new more (roots + one)
+next_right bytes old new all more roots one row p is right count =
+    rw (is.2, right.2, count) (progress bytes old all roots row right.0 p is.0 is.1 right.1)
+
+pub next_shorter : (old new : Reading) (row : Row) → NextIs old new (next.Row row) → length new.rest < length old.rest
+next_shorter old new row is = rw is.2 (length-drop_through-lt old.rest is.0)
+
+pub next_wrong : (bytes : List ℕ) (old new : Reading) (all : List Meaning) (roots len : ℕ) (row : Row) → Progress bytes old all roots → NextIs old new (next.Row row) → (more : List Meaning) → (more ≡ all) × ((m : Meaning) → RightRow all row m → ⊥) → len ≡ length more → FirstBad bytes len
+next_wrong bytes old new all roots len row p is more wrong n =
+    subst (FirstBad bytes) ((count_is bytes old all roots p).0 ∙ ap length (sym wrong.0) ∙ sym n) (bad_row bytes old all roots row p is.0 is.1 wrong.1)
+
+pub next_misspelt : (bytes : List ℕ) (old new : Reading) (all : List Meaning) (roots k : ℕ) → Progress bytes old all roots → NextIs old new (next.BadSpelling k) → FirstBad bytes k
+next_misspelt bytes old new all roots k p is = rw is.1 (bad_spelling bytes old all roots p is.0 is.2)
+
+-- the verdict where no byte is left
+pub end_empty : (bytes : List ℕ) (old new : Reading) (all : List Meaning) (roots len : ℕ) (verdict : Verdict) → Progress bytes old all roots → NextIs old new next.End → len ≡ length all → len ≡ 0 → verdict ≡ No 0 → VerdictIs bytes verdict
+end_empty bytes old new all roots len verdict p is n empty v = rw v (nothing_there bytes old all roots p is.0 (sym n ∙ empty))
+
+pub end_some : (bytes : List ℕ) (old new : Reading) (all : List Meaning) (roots len : ℕ) (verdict : Verdict) → Progress bytes old all roots → NextIs old new next.End → len ≡ length all → 0 < len → verdict ≡ Yes len roots → VerdictIs bytes verdict
+end_some bytes old new all roots len verdict p is n some v = rw (v, n) (all_done bytes old all roots p is.0 (omega arith))
