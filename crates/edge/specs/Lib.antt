@@ -1,4 +1,5 @@
-pub mod Count
+pub mod Counts
 pub mod Files
 pub mod Streams
 pub mod Memory
+pub mod Real

@@ -4,7 +4,7 @@ use Rattle.std.specs.BTreeMap.{BTreeMap}
 use Rattle.std.specs.Coded.{Coded, code_by, coded×, coded_ℕ, coded_list}
 use Rattle.std.specs.FinMap.{from_entries, insert, code}
 use Rattle.std.specs.declared.alloc.Global.{Global}
-use Rattle.edge.specs.Count.{one_more}
+use Rattle.edge.specs.Counts.{FileCounts, one_more, counted_fetch, counted_store, counted_read, counted_write}
 use Rattle.edge.specs.Files.{Held}
 use Rattle.edge.specs.declared.files.Fetched.{Fetched}
 use Rattle.edge.specs.declared.files.Fetched.TheVariants as fetched
@@ -20,9 +20,7 @@ pub record FilesInMemory : Type 0 where
   pub held : Held
   pub failing : List ℕ
   pub calls : ℕ
-  pub misses : ℕ
-  pub fetch_faults : ℕ
-  pub store_faults : ℕ
+  pub counts : FileCounts
 
 -- A source in memory. Its reads are numbered from 0, and `calls` is the next one's number.
 pub record SourceInMemory : Type 0 where
@@ -31,8 +29,7 @@ pub record SourceInMemory : Type 0 where
   pub calls : ℕ
   pub faults : ℕ
 
--- A sink in memory, which takes `room` bytes in all. Its writes are numbered from 0, and `calls` is the
--- next one's number.
+-- A sink in memory, which takes `room` bytes in all. Its writes are numbered from 0, and `calls` is the next one's number.
 pub record SinkInMemory : Type 0 where
   pub taken : List ℕ
   pub room : ℕ
@@ -40,28 +37,37 @@ pub record SinkInMemory : Type 0 where
   pub calls : ℕ
   pub faults : ℕ
 
--- the files after a fetch: the call is counted, and so is a miss or a fault
+-- the files after a fetch with this answer
 abbrev pub after_fetch : Fetched → FilesInMemory → FilesInMemory
-after_fetch fetched.Found files = record files { calls = one_more files.calls }
-after_fetch fetched.Missing files = record files { calls = one_more files.calls; misses = one_more files.misses }
-after_fetch fetched.Failed files = record files { calls = one_more files.calls; fetch_faults = one_more files.fetch_faults }
-after_fetch fetched.Memory files = record files { calls = one_more files.calls }
+after_fetch answer files = record files { calls = one_more files.calls; counts = counted_fetch answer files.counts }
 
--- the files after a store of bytes at a path: the call is counted, and so is a fault
+-- what is held after a store of bytes at a path
+abbrev pub held_after : Stored → List ℕ → List ℕ → Held → Held
+held_after stored.Done path bytes held = insert held path bytes
+held_after stored.Failed path bytes held = held
+held_after stored.Memory path bytes held = held
+
+-- the files after a store with this answer
 abbrev pub after_store : Stored → List ℕ → List ℕ → FilesInMemory → FilesInMemory
-after_store stored.Done path bytes files = record files { calls = one_more files.calls; held = insert files.held path bytes }
-after_store stored.Failed path bytes files = record files { calls = one_more files.calls; store_faults = one_more files.store_faults }
-after_store stored.Memory path bytes files = record files { calls = one_more files.calls }
+after_store answer path bytes files = record files { held = held_after answer path bytes files.held; calls = one_more files.calls; counts = counted_store answer files.counts }
 
--- the source after a read: what was read is gone, the call is counted, and so is a fault
+-- what is left after a read
+abbrev pub left_after : Got → List ℕ → List ℕ
+left_after (got.Bytes n) left = drop n left
+left_after got.Failed left = left
+
+-- the source after a read with this answer
 abbrev pub after_read : Got → SourceInMemory → SourceInMemory
-after_read (got.Bytes n) source = record source { calls = one_more source.calls; left = drop n source.left }
-after_read got.Failed source = record source { calls = one_more source.calls; faults = one_more source.faults }
+after_read answer source = record source { left = left_after answer source.left; calls = one_more source.calls; faults = counted_read answer source.faults }
 
--- the sink after a write of a piece: what was taken is there, the call is counted, and so is a fault
+-- what was taken after a write of a piece
+abbrev pub taken_after : Took → List ℕ → List ℕ → List ℕ
+taken_after (took.Bytes n) piece taken = taken ++ take n piece
+taken_after took.Failed piece taken = taken
+
+-- the sink after a write with this answer
 abbrev pub after_write : Took → List ℕ → SinkInMemory → SinkInMemory
-after_write (took.Bytes n) piece sink = record sink { calls = one_more sink.calls; taken = sink.taken ++ take n piece }
-after_write took.Failed piece sink = record sink { calls = one_more sink.calls; faults = one_more sink.faults }
+after_write answer piece sink = record sink { taken = taken_after answer piece sink.taken; calls = one_more sink.calls; faults = counted_write answer sink.faults }
 
 -- a read gives as much as there is, up to the buffer's length
 abbrev pub ReadsWhatFits : SourceInMemory → List ℕ → Got → Type 0
@@ -85,4 +91,4 @@ held_in files = from_entries (map entry files.entries)
 abbrev pub coded_files : Coded FilesInMemory
 coded_files =
     let bytes : Coded (List ℕ) = coded_list coded_ℕ in
-    code_by (Held × (List ℕ × (ℕ × (ℕ × (ℕ × ℕ))))) (coded× (code bytes bytes) (coded× bytes (coded× coded_ℕ (coded× coded_ℕ (coded× coded_ℕ coded_ℕ))))) (λ f. (f.held, (f.failing, (f.calls, (f.misses, (f.fetch_faults, f.store_faults)))))) (λ p. record { held = p.0; failing = p.1.0; calls = p.1.1.0; misses = p.1.1.1.0; fetch_faults = p.1.1.1.1.0; store_faults = p.1.1.1.1.1 }) (λ _. refl)
+    code_by (Held × (List ℕ × (ℕ × (ℕ × (ℕ × ℕ))))) (coded× (code bytes bytes) (coded× bytes (coded× coded_ℕ (coded× coded_ℕ (coded× coded_ℕ coded_ℕ))))) (λ f. (f.held, (f.failing, (f.calls, (f.counts.misses, (f.counts.fetch_faults, f.counts.store_faults)))))) (λ p. record { held = p.0; failing = p.1.0; calls = p.1.1.0; counts = record { misses = p.1.1.1.0; fetch_faults = p.1.1.1.1.0; store_faults = p.1.1.1.1.1 } }) (λ _. refl)

@@ -1,7 +1,7 @@
 // Files by their paths.
 ghost use Rattle.std.specs.Prelude.{◌≡◌, ◌≤◌, ℕ};
 ghost use Rattle.std.specs.declared.option.Option.{Option};
-ghost use Rattle.edge.specs.Count.{Rose};
+ghost use Rattle.edge.specs.Counts.{Rose};
 ghost use Rattle.edge.specs.Files.{Held, FetchGives, StoreDoes};
 
 /// How a fetch ended.

@@ -1,7 +1,7 @@
 // A source and a sink of bytes.
 ghost use Rattle.std.specs.Prelude.{◌≡◌, ◌≤◌, ◌<◌, ℕ, List, length};
 ghost use Rattle.std.specs.declared.option.Option.{Option};
-ghost use Rattle.edge.specs.Count.{Rose};
+ghost use Rattle.edge.specs.Counts.{Rose};
 ghost use Rattle.edge.specs.Streams.{ReadGives, WriteTakes};
 
 /// How a read ended.

@@ -2,8 +2,9 @@
 ghost use Rattle.std.specs.Prelude.{◌≡◌, ◌≤◌, ◌↔◌, Some, IfOk, OnOk, OnErr, IsSome, Contains};
 ghost use Rattle.std.specs.Option.{option_map};
 ghost use Rattle.std.specs.FinMap as map;
-ghost use Rattle.edge.specs.Count.{Rose};
+ghost use Rattle.edge.specs.Counts.{Rose};
 ghost use Rattle.edge.specs.Files.{FetchGives, StoreDoes};
+ghost use Rattle.edge.specs.Counts.{no_counts};
 ghost use Rattle.edge.specs.Memory.{after_fetch, after_store};
 
 use super::script::Script;
@@ -34,9 +35,7 @@ impl Model for MemFiles {
         held = held_in f.held;
         failing = f.script.failing.items;
         calls = f.script.calls;
-        misses = f.misses;
-        fetch_faults = f.fetch_faults;
-        store_faults = f.store_faults
+        counts = record { misses = f.misses; fetch_faults = f.fetch_faults; store_faults = f.store_faults }
     } };
 }
 
@@ -44,7 +43,7 @@ impl MemFiles {
     /// Files that hold no path, and whose fetches and stores fail where their number, from 0, is listed.
     /// The two are numbered together.
     pub fn new(alloc: Global, failing: &[u64]) -> Result<MemFiles, AllocError>
-        ensures { IfOk result (λ files. files ≡ record { held = map.empty; failing = failing.now; calls = 0; misses = 0; fetch_faults = 0; store_faults = 0 }) }
+        ensures { IfOk result (λ files. files ≡ record { held = map.empty; failing = failing.now; calls = 0; counts = no_counts }) }
     {
         Ok(MemFiles {
             alloc,
@@ -81,23 +80,14 @@ impl MemFiles {
 impl Files for MemFiles {
     ghost held = { λ s. Some s.held };
 
-    ghost misses = { λ s. s.misses };
+    ghost misses = { λ s. s.counts.misses };
 
-    ghost fetch_faults = { λ s. s.fetch_faults };
+    ghost fetch_faults = { λ s. s.counts.fetch_faults };
 
-    ghost store_faults = { λ s. s.store_faults };
+    ghost store_faults = { λ s. s.counts.store_faults };
 
     fn fetch(&mut self, path: &str, into: &mut Vec<u8>) -> Fetched
-        // As any files.
         ensures bytes { FetchGives (Some self.old.held) path.now into.old.items into.new.items result }
-        ensures held { Some self.new.held ≡ Some self.old.held }
-        ensures missing { result ≡ Fetched.Missing → Rose self.old.misses self.new.misses }
-        ensures failed { result ≡ Fetched.Failed → Rose self.old.fetch_faults self.new.fetch_faults }
-        ensures misses { self.old.misses ≤ self.new.misses }
-        ensures fetch_faults { self.old.fetch_faults ≤ self.new.fetch_faults }
-        ensures store_faults { self.new.store_faults ≡ self.old.store_faults }
-
-        // In memory.
         ensures listed { (result ≡ Fetched.Failed) ↔ Contains self.old.failing self.old.calls }
         ensures memory { result ≡ Fetched.Memory → IsSome (map.get self.old.held path.now) }
         ensures after { self.new ≡ after_fetch result self.old }
@@ -119,14 +109,6 @@ impl Files for MemFiles {
     }
 
     fn store(&mut self, path: &str, bytes: &[u8]) -> Stored
-        // As any files.
-        ensures held { StoreDoes (Some self.old.held) (Some self.new.held) path.now bytes.now result }
-        ensures failed { result ≡ Stored.Failed → Rose self.old.store_faults self.new.store_faults }
-        ensures store_faults { self.old.store_faults ≤ self.new.store_faults }
-        ensures misses { self.new.misses ≡ self.old.misses }
-        ensures fetch_faults { self.new.fetch_faults ≡ self.old.fetch_faults }
-
-        // In memory.
         ensures listed { (result ≡ Stored.Failed) ↔ Contains self.old.failing self.old.calls }
         ensures after { self.new ≡ after_store result path.now bytes.now self.old }
     {

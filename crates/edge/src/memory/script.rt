@@ -1,6 +1,6 @@
 // Which calls of an object in memory are to fail.
 ghost use Rattle.std.specs.Prelude.{◌≡◌, ◌↔◌, IfOk, IsTrue, Contains};
-ghost use Rattle.edge.specs.Count.{one_more};
+ghost use Rattle.edge.specs.Counts.{one_more};
 
 use std::alloc::{AllocError, Global};
 

@@ -1,6 +1,6 @@
 // A sink in memory.
 ghost use Rattle.std.specs.Prelude.{◌≡◌, ◌≤◌, ◌<◌, ◌↔◌, ◌⊎◌, [], Some, IfOk, Contains, length};
-ghost use Rattle.edge.specs.Count.{Rose};
+ghost use Rattle.edge.specs.Counts.{Rose};
 ghost use Rattle.edge.specs.Streams.{WriteTakes};
 ghost use Rattle.edge.specs.Memory.{after_write, TakesWhatFits};
 
@@ -57,13 +57,6 @@ impl Sink for MemSink {
     ghost faults = { λ s. s.faults };
 
     fn write(&mut self, piece: &[u8]) -> Took
-        // As any sink.
-        ensures bytes { WriteTakes (Some self.old.taken) (Some self.new.taken) piece.now result }
-        ensures failed { result ≡ Took.Failed → Rose self.old.faults self.new.faults }
-        ensures stuck { result ≡ Took.Bytes 0 → 0 < length piece.now → Rose self.old.faults self.new.faults }
-        ensures faults { self.old.faults ≤ self.new.faults }
-
-        // In memory.
         ensures refused { (result ≡ Took.Failed) ↔ (Contains self.old.failing self.old.calls ⊎ (self.old.room ≤ length self.old.taken)) }
         ensures fits { TakesWhatFits self.old piece.now result }
         ensures after { self.new ≡ after_write result piece.now self.old }

@@ -1,6 +1,6 @@
 // A source in memory.
 ghost use Rattle.std.specs.Prelude.{◌≡◌, ◌≤◌, ◌↔◌, Some, IfOk, Contains, length, min, take, drop};
-ghost use Rattle.edge.specs.Count.{Rose};
+ghost use Rattle.edge.specs.Counts.{Rose};
 ghost use Rattle.edge.specs.Streams.{ReadGives};
 ghost use Rattle.edge.specs.Memory.{after_read, ReadsWhatFits};
 
@@ -60,12 +60,7 @@ impl Source for MemSource {
     ghost faults = { λ s. s.faults };
 
     fn read(&mut self, buf: &mut [u8]) -> Got
-        // As any source.
         ensures bytes { ReadGives (Some self.old.left) (Some self.new.left) buf.new result }
-        ensures failed { result ≡ Got.Failed → Rose self.old.faults self.new.faults }
-        ensures faults { self.old.faults ≤ self.new.faults }
-
-        // In memory.
         ensures listed { (result ≡ Got.Failed) ↔ Contains self.old.failing self.old.calls }
         ensures fits { ReadsWhatFits self.old buf.new result }
         ensures after { self.new ≡ after_read result self.old }
