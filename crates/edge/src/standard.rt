@@ -1,10 +1,13 @@
 // Standard input and output.
 ghost use Rattle.std.specs.Prelude.{◌≡◌, []};
+ghost use Rattle.std.specs.Io.{ReadsAtMost, WritesAtMost};
+ghost use Rattle.std.specs.Io.KnownBytes.{ReadConsumes, WriteAppends};
 ghost use Rattle.edge.specs.Counts.{counted_read, counted_write};
 ghost use Rattle.edge.specs.Streams.{ReadGives, WriteTakes};
 
 use crate::{Got, Sink, Source, Took};
-use std::io::{Read, Write};
+use std::io;
+use std::io::{ErrorKind, Read, Write};
 use std::marker::Model;
 
 /// A source over a reader, as standard input is one. It tells what the reader tells, which of standard
@@ -32,6 +35,20 @@ impl<R: Read + Drop> StdIn<R> {
     }
 }
 
+/// One read, made again where a signal interrupts it.
+fn read_retrying<R: Read>(reader: &mut R, buf: &mut [u8]) -> io::Result<usize>
+    ensures bound { ReadsAtMost result buf.new }
+    ensures bytes { ReadConsumes (R.remaining reader.old) (R.remaining reader.new) result buf.new }
+{
+    for _ in 0..u64::MAX {
+        match reader.read(buf) {
+            Err(error) if error.kind() == ErrorKind::Interrupted => {}
+            outcome => return outcome,
+        }
+    }
+    Err(io::Error::from(ErrorKind::Interrupted))
+}
+
 impl<R: Read + Drop> Source for StdIn<R> {
     ghost left = { λ s. s.left };
 
@@ -41,7 +58,7 @@ impl<R: Read + Drop> Source for StdIn<R> {
         ensures bytes { ReadGives self.old.left self.new.left buf.new result }
         ensures counted { self.new.faults ≡ counted_read result self.old.faults }
     {
-        match self.reader.read(buf) {
+        match read_retrying(&mut self.reader, buf) {
             Ok(count) => Got::Bytes(count),
             Err(_) => {
                 self.faults = self.faults.saturating_add(1);
@@ -76,6 +93,20 @@ impl<W: Write + Drop> StdOut<W> {
     }
 }
 
+/// One write, made again where a signal interrupts it.
+fn write_retrying<W: Write>(writer: &mut W, piece: &[u8]) -> io::Result<usize>
+    ensures bound { WritesAtMost result piece.now }
+    ensures bytes { WriteAppends (W.contents writer.old) (W.contents writer.new) result piece.now }
+{
+    for _ in 0..u64::MAX {
+        match writer.write(piece) {
+            Err(error) if error.kind() == ErrorKind::Interrupted => {}
+            outcome => return outcome,
+        }
+    }
+    Err(io::Error::from(ErrorKind::Interrupted))
+}
+
 impl<W: Write + Drop> Sink for StdOut<W> {
     ghost taken = { λ s. s.taken };
 
@@ -87,7 +118,7 @@ impl<W: Write + Drop> Sink for StdOut<W> {
         ensures stuck { result ≡ Took.Bytes 0 → piece.now ≡ [] }
         ensures counted { self.new.faults ≡ counted_write result self.old.faults }
     {
-        match self.writer.write(piece) {
+        match write_retrying(&mut self.writer, piece) {
             Ok(count) if count > 0 || piece.is_empty() => Took::Bytes(count),
             _ => {
                 self.faults = self.faults.saturating_add(1);
