@@ -69,10 +69,10 @@ taken_after took.Failed piece taken = taken
 abbrev pub after_write : Took → List ℕ → SinkInMemory → SinkInMemory
 after_write answer piece sink = record sink { taken = taken_after answer piece sink.taken; calls = one_more sink.calls; faults = counted_write answer sink.faults }
 
--- a read gives as much as there is, up to the buffer's length
-abbrev pub ReadsWhatFits : SourceInMemory → List ℕ → Got → Type 0
-ReadsWhatFits source buf (got.Bytes n) = n ≡ min (length buf) (length source.left)
-ReadsWhatFits source buf got.Failed = Unit {0}
+-- A read gives as much of what is left as fits in the buffer, at its front, and leaves the rest of the buffer.
+abbrev pub GivesWhatFits : SourceInMemory → List ℕ → List ℕ → Got → Type 0
+GivesWhatFits source old new (got.Bytes n) = (n ≡ min (length old) (length source.left)) × (new ≡ take n source.left ++ drop n old)
+GivesWhatFits source old new got.Failed = new ≡ old
 
 -- a write takes what fits in what is left of the room
 abbrev pub TakesWhatFits : SinkInMemory → List ℕ → Took → Type 0

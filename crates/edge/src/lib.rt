@@ -12,3 +12,6 @@ pub use files::{Fetched, Files, Stored};
 pub use memory::{MemFiles, MemSink, MemSource};
 pub use standard::{StdIn, StdOut};
 pub use streams::{Got, Sink, Source, Took};
+
+#[cfg(test)]
+mod tests;

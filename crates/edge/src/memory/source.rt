@@ -1,8 +1,8 @@
 // A source in memory.
-ghost use Rattle.std.specs.Prelude.{◌≡◌, ◌≤◌, ◌↔◌, Some, IfOk, Contains, length, min, take, drop};
+ghost use Rattle.std.specs.Prelude.{◌≡◌, ◌≤◌, ◌↔◌, Some, IfOk, Contains, length, min, take, drop, ◌++◌};
 ghost use Rattle.edge.specs.Counts.{Rose};
 ghost use Rattle.edge.specs.Streams.{ReadGives};
-ghost use Rattle.edge.specs.Memory.{after_read, ReadsWhatFits};
+ghost use Rattle.edge.specs.Memory.{after_read, GivesWhatFits};
 
 use super::script::Script;
 use crate::{Got, Source};
@@ -46,8 +46,7 @@ impl MemSource {
 /// Copies to the front of a slice as much as fits of the front of another, and tells how much.
 fn copy_front(from: &[u8], to: &mut [u8]) -> usize
     ensures count { result ≡ min (length to.old) (length from.now) }
-    ensures copied { take result to.new ≡ take result from.now }
-    ensures rest { drop result to.new ≡ drop result to.old }
+    ensures copied { to.new ≡ take result from.now ++ drop result to.old }
 {
     let count = to.len().min(from.len());
     to[..count].copy_from_slice(&from[..count]);
@@ -62,7 +61,7 @@ impl Source for MemSource {
     fn read(&mut self, buf: &mut [u8]) -> Got
         ensures bytes { ReadGives (Some self.old.left) (Some self.new.left) buf.new result }
         ensures listed { (result ≡ Got.Failed) ↔ Contains self.old.failing self.old.calls }
-        ensures fits { ReadsWhatFits self.old buf.new result }
+        ensures gives { GivesWhatFits self.old buf.old buf.new result }
         ensures after { self.new ≡ after_read result self.old }
     {
         if self.script.next_fails() {
