@@ -1,8 +1,7 @@
 -- What a map from paths to bytes holds, before and after a change.
-use Rattle.std.proofs.Common.{◌≡◌, ℕ, Bool, true, false, cond, List, [], ◌∷◌, map, ap, refl, sym, ◌∙◌, None, Some, Option, String, Vec, string_bytes}
+use Rattle.std.proofs.Common.{◌≡◌, ◌≢◌, rules, ℕ, Bool, true, false, cond, List, [], ◌∷◌, map, ap, refl, sym, ◌∙◌, None, Some, Option, String, Vec, string_bytes}
 use Rattle.std.specs.declared.alloc.Global.{Global}
-use Rattle.std.specs.Option.{option_map, option_copied}
-use denote.Ref.{Bor}
+use Rattle.std.specs.Option.{option_map}
 use Rattle.std.specs.Ordering.{nat_cmp, eq_by_cmp}
 use Rattle.std.specs.Cmp.{eq_by_cmp_equiv}
 use Rattle.std.specs.Cmp.Lexicographic.{slice_cmp, nat_list_cmp_total}
@@ -10,8 +9,9 @@ use Rattle.std.specs.Str.{bytes_eq}
 use Rattle.std.specs.String.{string_cmp}
 use Rattle.std.specs.Map.{lookup}
 use Rattle.std.specs.BTreeMap.{BTreeMap, is_at, UpdatesBy}
-use Rattle.std.specs.FinMap.{get, insert, from_entries, find, get-from_entries, get-insert, same_map, nat_cmp-IsAntisymmetric, slice_cmp-IsAntisymmetric}
+use Rattle.std.specs.FinMap.{get, insert, from_entries, find, get-from_entries, get-insert, same_map, nat_cmp-IsAntisymmetric, slice_cmp-IsAntisymmetric, gets}
 use Rattle.std.proofs.lemmas.Map.Text.{btree_map_updates_text, is_eq-slice_cmp}
+use Rattle.edge.specs.Files.{Held}
 use Rattle.edge.specs.Memory.{entry, held_in}
 
 abbrev pub Entries : Type 0
@@ -44,6 +44,11 @@ put_held m n bs v u = same_map nat_list_cmp_total (slice_cmp-IsAntisymmetric nat
     ∙ ap (λ b. cond b (Some v.items) (get (held_in m) q)) (same_test bs q)
     ∙ sym (get-insert nat_list_cmp_total (held_in m) bs v.items q))
 
-pub items_copied : (r : Option (Bor (Vec ℕ Global))) → option_map (λ v. v.now.items) r ≡ option_map (λ (v : Vec ℕ Global). v.items) (option_copied r)
-items_copied None = refl
-items_copied (Some v) = refl
+-- the path holds what was inserted
+pub insert_holds : (m : Held) (path bytes : List ℕ) → get (insert m path bytes) path ≡ Some bytes
+insert_holds m path bytes = grind (gets, rules)
+
+-- another path holds what it did
+pub insert_keeps : (m : Held) (path bytes other : List ℕ) → other ≢ path → get (insert m path bytes) other ≡ get m other
+insert_keeps m path bytes other apart =
+    grind (gets, rules, slice_cmp-IsAntisymmetric nat_cmp-IsAntisymmetric other path)

@@ -4,7 +4,7 @@ use Rattle.std.specs.declared.option.Option.{Option}
 use Rattle.std.specs.Option.{option_map}
 use Rattle.std.specs.Ordering.{nat_cmp}
 use Rattle.std.specs.Cmp.Lexicographic.{slice_cmp}
-use Rattle.std.specs.FinMap.{FinMap, get, insert}
+use Rattle.std.specs.FinMap.{FinMap, get}
 use Rattle.edge.specs.declared.files.Fetched.{Fetched}
 use Rattle.edge.specs.declared.files.Fetched.TheVariants as fetched
 use Rattle.edge.specs.declared.files.Stored.{Stored}
@@ -14,7 +14,7 @@ use Rattle.edge.specs.declared.files.Stored.TheVariants as stored
 abbrev pub Held : Type 0
 Held = FinMap (slice_cmp nat_cmp) (List ℕ)
 
--- the path holds these bytes, or none, where it is told what is held
+-- the path holds these bytes, or is not held at None, where contents are told
 abbrev pub HoldsAt : Option Held → List ℕ → Option (List ℕ) → Type 0
 HoldsAt held path bytes = IfSome held (λ files. get files path ≡ bytes)
 
@@ -25,7 +25,7 @@ FetchGives held path old new fetched.Missing = (new ≡ old) × HoldsAt held pat
 FetchGives held path old new fetched.Failed = new ≡ old
 FetchGives held path old new fetched.Memory = new ≡ old
 
--- what is told of a path
+-- what is told of a path: nothing, or the bytes that it holds, if it is held
 abbrev pub told_at : Option Held → List ℕ → Option (Option (List ℕ))
 told_at held path = option_map (λ files. get files path) held
 
@@ -33,8 +33,8 @@ told_at held path = option_map (λ files. get files path) held
 abbrev pub KeepsOthers : Option Held → Option Held → List ℕ → Type 0
 KeepsOthers old new path = (other : List ℕ) → other ≢ path → told_at new other ≡ told_at old other
 
--- what a store of bytes at a path does to what is held
+-- What a store of bytes at a path does to what is held. After Failed the path's own bytes are open.
 abbrev pub StoreDoes : Option Held → Option Held → List ℕ → List ℕ → Stored → Type 0
-StoreDoes old new path bytes stored.Done = new ≡ option_map (λ files. insert files path bytes) old
+StoreDoes old new path bytes stored.Done = HoldsAt new path (Some bytes) × KeepsOthers old new path
 StoreDoes old new path bytes stored.Failed = KeepsOthers old new path
 StoreDoes old new path bytes stored.Memory = new ≡ old

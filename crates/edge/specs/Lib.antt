@@ -2,4 +2,5 @@ pub mod Counts
 pub mod Files
 pub mod Streams
 pub mod Memory
-pub mod Real
+pub mod Codes
+pub mod Standard

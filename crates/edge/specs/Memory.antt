@@ -1,8 +1,7 @@
--- Files, a source and a sink in memory, as their callers see them. Each fails at the calls that it was told.
-use Rattle.std.specs.Prelude.{◌≡◌, ℕ, ◌-◌, min, List, ◌++◌, length, take, drop, map, refl, Vec, String, string_bytes}
+-- Files, a source and a sink in memory, as their callers see them.
+use Rattle.std.specs.Prelude.{◌≡◌, ℕ, ◌-◌, min, List, ◌++◌, length, take, drop, map, Vec, String, string_bytes}
 use Rattle.std.specs.BTreeMap.{BTreeMap}
-use Rattle.std.specs.Coded.{Coded, code_by, coded×, coded_ℕ, coded_list}
-use Rattle.std.specs.FinMap.{from_entries, insert, code}
+use Rattle.std.specs.FinMap.{from_entries, insert}
 use Rattle.std.specs.declared.alloc.Global.{Global}
 use Rattle.edge.specs.Counts.{FileCounts, one_more, counted_fetch, counted_store, counted_read, counted_write}
 use Rattle.edge.specs.Files.{Held}
@@ -16,20 +15,23 @@ use Rattle.edge.specs.declared.streams.Took.{Took}
 use Rattle.edge.specs.declared.streams.Took.TheVariants as took
 
 -- Files in memory. Fetches and stores are numbered together, from 0, and `calls` is the next one's number.
+-- Those whose number is in `failing` fail.
 pub record FilesInMemory : Type 0 where
   pub held : Held
   pub failing : List ℕ
   pub calls : ℕ
   pub counts : FileCounts
 
--- A source in memory. Its reads are numbered from 0, and `calls` is the next one's number.
+-- A source in memory. Its reads are numbered from 0, and `calls` is the next one's number. Those whose
+-- number is in `failing` fail.
 pub record SourceInMemory : Type 0 where
   pub left : List ℕ
   pub failing : List ℕ
   pub calls : ℕ
   pub faults : ℕ
 
--- A sink in memory, which takes `room` bytes in all. Its writes are numbered from 0, and `calls` is the next one's number.
+-- A sink in memory, which takes `room` bytes in all. Its writes are numbered from 0, and `calls` is the
+-- next one's number. Those whose number is in `failing` fail.
 pub record SinkInMemory : Type 0 where
   pub taken : List ℕ
   pub room : ℕ
@@ -86,9 +88,3 @@ entry e = (string_bytes e.0, e.1.items)
 -- what a map from paths to bytes holds
 abbrev pub held_in : BTreeMap (String Global) (Vec ℕ Global) → Held
 held_in files = from_entries (map entry files.entries)
-
--- the files are data, stored as the tuple of their fields
-abbrev pub coded_files : Coded FilesInMemory
-coded_files =
-    let bytes : Coded (List ℕ) = coded_list coded_ℕ in
-    code_by (Held × (List ℕ × (ℕ × (ℕ × (ℕ × ℕ))))) (coded× (code bytes bytes) (coded× bytes (coded× coded_ℕ (coded× coded_ℕ (coded× coded_ℕ coded_ℕ))))) (λ f. (f.held, (f.failing, (f.calls, (f.counts.misses, (f.counts.fetch_faults, f.counts.store_faults)))))) (λ p. record { held = p.0; failing = p.1.0; calls = p.1.1.0; counts = record { misses = p.1.1.1.0; fetch_faults = p.1.1.1.1.0; store_faults = p.1.1.1.1.1 } }) (λ _. refl)

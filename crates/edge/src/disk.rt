@@ -10,7 +10,8 @@ use std::io::{ErrorKind, Read, Write};
 use std::marker::Model;
 use std::{io, rt};
 
-/// The files of the system, as what `main` is handed reaches them. It tells no contents.
+/// The files of the system, as what `main` is handed reaches them. They tell no contents. A path that is
+/// there and can't be opened or read, as a folder, is a fault.
 #[derive(Drop)]
 pub struct DiskFiles<R: rt::Files + Drop> {
     system: R,
@@ -24,7 +25,8 @@ impl<R: rt::Files + Drop> Model for DiskFiles<R> {
 
     ghost Value = { FileCounts };
 
-    ghost view = { λ d. record { misses = d.misses; fetch_faults = d.fetch_faults; store_faults = d.store_faults } };
+    ghost view = { λ d. record {
+        misses = d.misses; fetch_faults = d.fetch_faults; store_faults = d.store_faults } };
 }
 
 impl<R: rt::Files + Drop> DiskFiles<R> {

@@ -19,7 +19,7 @@ pub struct StdIn<R: Read + Drop> {
 }
 
 impl<R: Read + Drop> Model for StdIn<R> {
-    ghost use Rattle.edge.specs.Real.{ReaderSource};
+    ghost use Rattle.edge.specs.Standard.{ReaderSource};
 
     ghost Value = { ReaderSource };
 
@@ -77,7 +77,7 @@ pub struct StdOut<W: Write + Drop> {
 }
 
 impl<W: Write + Drop> Model for StdOut<W> {
-    ghost use Rattle.edge.specs.Real.{WriterSink};
+    ghost use Rattle.edge.specs.Standard.{WriterSink};
 
     ghost Value = { WriterSink };
 

@@ -7,7 +7,7 @@ use std::test::Fail;
 use std::{env, fs, io, process};
 
 #[test]
-fn files_in_memory(rt: HostRuntime) -> Result<(), Fail> {
+fn memory_files_fail_where_listed(rt: HostRuntime) -> Result<(), Fail> {
     let alloc = rt.alloc();
     let mut files = MemFiles::new(alloc, &[1, 3])?;
     files.put("a.drv", b"one")?;
@@ -26,7 +26,7 @@ fn files_in_memory(rt: HostRuntime) -> Result<(), Fail> {
 }
 
 #[test]
-fn source_in_memory(rt: HostRuntime) -> Result<(), Fail> {
+fn memory_source_gives_its_bytes(rt: HostRuntime) -> Result<(), Fail> {
     let mut source = MemSource::new(rt.alloc(), b"hello", &[1])?;
     for (got, buf) in [
         (Got::Bytes(3), "hel"),
@@ -42,7 +42,7 @@ fn source_in_memory(rt: HostRuntime) -> Result<(), Fail> {
 }
 
 #[test]
-fn sink_in_memory(rt: HostRuntime) -> Result<(), Fail> {
+fn memory_sink_stops_at_its_room(rt: HostRuntime) -> Result<(), Fail> {
     let mut sink = MemSink::new(rt.alloc(), 5, &[1])?;
     for (piece, took) in [
         ("abc", Took::Bytes(3)),
@@ -50,6 +50,7 @@ fn sink_in_memory(rt: HostRuntime) -> Result<(), Fail> {
         ("", Took::Bytes(0)),
         ("def", Took::Bytes(2)),
         ("g", Took::Failed),
+        ("", Took::Failed),
     ] {
         assert_eq!(rt; sink.write(piece.as_bytes()), took, "at {piece}");
     }
@@ -58,7 +59,7 @@ fn sink_in_memory(rt: HostRuntime) -> Result<(), Fail> {
 }
 
 #[test]
-fn real_files(rt: HostRuntime) -> Result<(), Fail> {
+fn disk_files_tell_missing_from_failed(rt: HostRuntime) -> Result<(), Fail> {
     let alloc = rt.alloc();
     let name = format!(in alloc; "ctt-edge-{}", process::id(rt.process()))?;
     let folder = env::temp_dir(&rt)?.join(alloc, name.as_str())?;
@@ -115,7 +116,7 @@ impl Write for Faulty {
 }
 
 #[test]
-fn standard_input(rt: HostRuntime) -> Result<(), Fail> {
+fn standard_input_retries_an_interrupt(rt: HostRuntime) -> Result<(), Fail> {
     let alloc = rt.alloc();
     let mut buf = *b"...";
     let mut input = StdIn::new(b"hi".as_slice());
@@ -130,7 +131,7 @@ fn standard_input(rt: HostRuntime) -> Result<(), Fail> {
 }
 
 #[test]
-fn standard_output(rt: HostRuntime) -> Result<(), Fail> {
+fn standard_output_fails_where_nothing_is_taken(rt: HostRuntime) -> Result<(), Fail> {
     let alloc = rt.alloc();
     let mut written = Vec::new(alloc);
     let mut out = StdOut::new(&mut written);

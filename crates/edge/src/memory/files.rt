@@ -1,10 +1,9 @@
 // Files in memory.
-ghost use Rattle.std.specs.Prelude.{◌≡◌, ◌≤◌, ◌↔◌, Some, IfOk, OnOk, OnErr, IsSome, Contains};
+ghost use Rattle.std.specs.Prelude.{◌≡◌, ◌↔◌, Some, IfOk, OnOk, OnErr, IsSome, Contains};
 ghost use Rattle.std.specs.Option.{option_map};
 ghost use Rattle.std.specs.FinMap as map;
-ghost use Rattle.edge.specs.Counts.{Rose};
-ghost use Rattle.edge.specs.Files.{FetchGives, StoreDoes};
 ghost use Rattle.edge.specs.Counts.{no_counts};
+ghost use Rattle.edge.specs.Files.{FetchGives, StoreDoes};
 ghost use Rattle.edge.specs.Memory.{after_fetch, after_store};
 
 use super::script::Script;
@@ -25,7 +24,8 @@ pub struct MemFiles {
 }
 
 impl Model for MemFiles {
-    ghost use Rattle.edge.specs.Memory.{FilesInMemory, coded_files, held_in};
+    ghost use Rattle.edge.specs.Memory.{FilesInMemory, held_in};
+    ghost use Rattle.edge.specs.Codes.{coded_files};
 
     ghost Value = { FilesInMemory };
 
@@ -43,7 +43,8 @@ impl MemFiles {
     /// Files that hold no path, and whose fetches and stores fail where their number, from 0, is listed.
     /// The two are numbered together.
     pub fn new(alloc: Global, failing: &[u64]) -> Result<MemFiles, AllocError>
-        ensures { IfOk result (λ files. files ≡ record { held = map.empty; failing = failing.now; calls = 0; counts = no_counts }) }
+        ensures { IfOk result (λ files. files ≡ record {
+            held = map.empty; failing = failing.now; calls = 0; counts = no_counts }) }
     {
         Ok(MemFiles {
             alloc,
@@ -57,7 +58,8 @@ impl MemFiles {
 
     /// Puts the bytes at the path, in place of what it held. This is no store, and has no number.
     pub fn put(&mut self, path: &str, bytes: &[u8]) -> Result<(), AllocError>
-        ensures ok { OnOk result (self.new ≡ record self.old { held = map.insert self.old.held path.now bytes.now }) }
+        ensures ok { OnOk result (self.new
+            ≡ record self.old { held = map.insert self.old.held path.now bytes.now }) }
         ensures err { OnErr result (self.new ≡ self.old) }
     {
         let key = String::from_str(self.alloc, path)?;
@@ -109,6 +111,7 @@ impl Files for MemFiles {
     }
 
     fn store(&mut self, path: &str, bytes: &[u8]) -> Stored
+        ensures held { StoreDoes (Some self.old.held) (Some self.new.held) path.now bytes.now result }
         ensures listed { (result ≡ Stored.Failed) ↔ Contains self.old.failing self.old.calls }
         ensures after { self.new ≡ after_store result path.now bytes.now self.old }
     {

@@ -7,8 +7,8 @@ use std::alloc::{AllocError, Global};
 /// The numbers of the calls that are to fail, and the number of the next call.
 #[derive(Drop)]
 pub struct Script {
-    pub failing: Vec<u64>,
-    pub calls: u64,
+    failing: Vec<u64>,
+    calls: u64,
 }
 
 impl Script {

@@ -1,7 +1,5 @@
 // A sink in memory.
-ghost use Rattle.std.specs.Prelude.{◌≡◌, ◌≤◌, ◌<◌, ◌↔◌, ◌⊎◌, [], Some, IfOk, Contains, length};
-ghost use Rattle.edge.specs.Counts.{Rose};
-ghost use Rattle.edge.specs.Streams.{WriteTakes};
+ghost use Rattle.std.specs.Prelude.{◌≡◌, ◌≤◌, ◌↔◌, ◌⊎◌, [], Some, IfOk, Contains, length};
 ghost use Rattle.edge.specs.Memory.{after_write, TakesWhatFits};
 
 use super::script::Script;
@@ -24,7 +22,13 @@ impl Model for MemSink {
 
     ghost Value = { SinkInMemory };
 
-    ghost view = { λ s. record { taken = s.bytes.items; room = s.room; failing = s.script.failing.items; calls = s.script.calls; faults = s.faults } };
+    ghost view = { λ s. record {
+        taken = s.bytes.items;
+        room = s.room;
+        failing = s.script.failing.items;
+        calls = s.script.calls;
+        faults = s.faults
+    } };
 
     ghost invariant = { λ s. (vec_len s.bytes ≤ s.room) × (s.room ≤ vec_capacity s.bytes) };
 }
@@ -33,7 +37,8 @@ impl MemSink {
     /// A sink with room for so many bytes, which are reserved first, so that no write takes memory. A write
     /// fails where its number, from 0, is listed, and where no room is left.
     pub fn new(alloc: Global, room: usize, failing: &[u64]) -> Result<MemSink, AllocError>
-        ensures { IfOk result (λ sink. sink ≡ record { taken = []; room = room; failing = failing.now; calls = 0; faults = 0 }) }
+        ensures { IfOk result (λ sink. sink ≡ record {
+            taken = []; room = room; failing = failing.now; calls = 0; faults = 0 }) }
     {
         Ok(MemSink {
             bytes: Vec::with_capacity(alloc, room)?,
@@ -57,7 +62,8 @@ impl Sink for MemSink {
     ghost faults = { λ s. s.faults };
 
     fn write(&mut self, piece: &[u8]) -> Took
-        ensures refused { (result ≡ Took.Failed) ↔ (Contains self.old.failing self.old.calls ⊎ (self.old.room ≤ length self.old.taken)) }
+        ensures refused { (result ≡ Took.Failed)
+            ↔ (Contains self.old.failing self.old.calls ⊎ (self.old.room ≤ length self.old.taken)) }
         ensures fits { TakesWhatFits self.old piece.now result }
         ensures after { self.new ≡ after_write result piece.now self.old }
     {

@@ -1,6 +1,5 @@
 // A source in memory.
-ghost use Rattle.std.specs.Prelude.{◌≡◌, ◌≤◌, ◌↔◌, Some, IfOk, Contains, length, min, take, drop, ◌++◌};
-ghost use Rattle.edge.specs.Counts.{Rose};
+ghost use Rattle.std.specs.Prelude.{◌≡◌, ◌↔◌, ◌++◌, min, Some, IfOk, Contains, length, take, drop};
 ghost use Rattle.edge.specs.Streams.{ReadGives};
 ghost use Rattle.edge.specs.Memory.{after_read, GivesWhatFits};
 
@@ -24,7 +23,12 @@ impl Model for MemSource {
 
     ghost Value = { SourceInMemory };
 
-    ghost view = { λ s. record { left = drop s.at s.bytes.items; failing = s.script.failing.items; calls = s.script.calls; faults = s.faults } };
+    ghost view = { λ s. record {
+        left = drop s.at s.bytes.items;
+        failing = s.script.failing.items;
+        calls = s.script.calls;
+        faults = s.faults
+    } };
 
     ghost invariant = { λ s. s.at ≤ length s.bytes.items };
 }
@@ -32,7 +36,8 @@ impl Model for MemSource {
 impl MemSource {
     /// A source with these bytes, whose reads fail where their number, from 0, is listed.
     pub fn new(alloc: Global, bytes: &[u8], failing: &[u64]) -> Result<MemSource, AllocError>
-        ensures { IfOk result (λ source. source ≡ record { left = bytes.now; failing = failing.now; calls = 0; faults = 0 }) }
+        ensures { IfOk result (λ source. source ≡ record {
+            left = bytes.now; failing = failing.now; calls = 0; faults = 0 }) }
     {
         Ok(MemSource {
             bytes: Vec::from_slice(alloc, bytes)?,

@@ -18,5 +18,5 @@ returns-clause-bytes c =
     let n = c.copy_front-count.result in
     let left : c.split_at.result.1.now ≡ drop at bytes = search rules in
     let copied : take n c.copy_front-count.new.to ≡ take n (drop at bytes) =
-        ap (take n) c.copy_front-count.ensures.copied ∙ front_copied c.split_at.result.1.now _ n (omega arith) ∙ ap (take n) left in
+    ap (take n) c.copy_front-count.ensures.copied ∙ front_copied c.split_at.result.1.now _ n (omega arith) ∙ ap (take n) left in
     (search rules, sym (ap (λ s. s.left) c.self.view_is) ∙ reads_front bytes _ at n copied, λ none room. drop_all (at + n) bytes (omega arith))
