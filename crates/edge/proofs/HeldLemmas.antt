@@ -1,5 +1,5 @@
 -- What a map from paths to bytes holds, before and after a change.
-use Rattle.std.proofs.Common.{◌≡◌, ◌≢◌, rules, ℕ, Bool, true, false, cond, List, [], ◌∷◌, map, ap, refl, sym, ◌∙◌, None, Some, Option, String, Vec, string_bytes}
+use Rattle.std.proofs.Common.{◌≡◌, ◌≢◌, rules, ℕ, Bool, true, false, cond, List, [], ◌∷◌, map, ap, refl, sym, ◌∙◌, Some, Option, String, Vec, string_bytes}
 use Rattle.std.specs.declared.alloc.Global.{Global}
 use Rattle.std.specs.Option.{option_map}
 use Rattle.std.specs.Ordering.{nat_cmp, eq_by_cmp}

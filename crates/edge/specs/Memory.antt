@@ -6,7 +6,6 @@ use Rattle.std.specs.declared.alloc.Global.{Global}
 use Rattle.edge.specs.Counts.{FileCounts, one_more, counted_fetch, counted_store, counted_read, counted_write}
 use Rattle.edge.specs.Files.{Held}
 use Rattle.edge.specs.declared.files.Fetched.{Fetched}
-use Rattle.edge.specs.declared.files.Fetched.TheVariants as fetched
 use Rattle.edge.specs.declared.files.Stored.{Stored}
 use Rattle.edge.specs.declared.files.Stored.TheVariants as stored
 use Rattle.edge.specs.declared.streams.Got.{Got}

@@ -26,7 +26,10 @@ impl<R: rt::Files + Drop> Model for DiskFiles<R> {
     ghost Value = { FileCounts };
 
     ghost view = { λ d. record {
-        misses = d.misses; fetch_faults = d.fetch_faults; store_faults = d.store_faults } };
+      misses = d.misses;
+      fetch_faults = d.fetch_faults;
+      store_faults = d.store_faults;
+    } };
 }
 
 impl<R: rt::Files + Drop> DiskFiles<R> {

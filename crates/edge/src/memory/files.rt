@@ -32,10 +32,10 @@ impl Model for MemFiles {
     ghost coded = { coded_files };
 
     ghost view = { λ f. record {
-        held = held_in f.held;
-        failing = f.script.failing.items;
-        calls = f.script.calls;
-        counts = record { misses = f.misses; fetch_faults = f.fetch_faults; store_faults = f.store_faults }
+      held = held_in f.held;
+      failing = f.script.failing.items;
+      calls = f.script.calls;
+      counts = record { misses = f.misses; fetch_faults = f.fetch_faults; store_faults = f.store_faults };
     } };
 }
 
@@ -44,7 +44,11 @@ impl MemFiles {
     /// The two are numbered together.
     pub fn new(alloc: Global, failing: &[u64]) -> Result<MemFiles, AllocError>
         ensures { IfOk result (λ files. files ≡ record {
-            held = map.empty; failing = failing.now; calls = 0; counts = no_counts }) }
+          held = map.empty;
+          failing = failing.now;
+          calls = 0;
+          counts = no_counts;
+        }) }
     {
         Ok(MemFiles {
             alloc,

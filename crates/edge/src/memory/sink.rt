@@ -23,11 +23,11 @@ impl Model for MemSink {
     ghost Value = { SinkInMemory };
 
     ghost view = { λ s. record {
-        taken = s.bytes.items;
-        room = s.room;
-        failing = s.script.failing.items;
-        calls = s.script.calls;
-        faults = s.faults
+      taken = s.bytes.items;
+      room = s.room;
+      failing = s.script.failing.items;
+      calls = s.script.calls;
+      faults = s.faults;
     } };
 
     ghost invariant = { λ s. (vec_len s.bytes ≤ s.room) × (s.room ≤ vec_capacity s.bytes) };
@@ -38,7 +38,12 @@ impl MemSink {
     /// fails where its number, from 0, is listed, and where no room is left.
     pub fn new(alloc: Global, room: usize, failing: &[u64]) -> Result<MemSink, AllocError>
         ensures { IfOk result (λ sink. sink ≡ record {
-            taken = []; room = room; failing = failing.now; calls = 0; faults = 0 }) }
+          taken = [];
+          room = room;
+          failing = failing.now;
+          calls = 0;
+          faults = 0;
+        }) }
     {
         Ok(MemSink {
             bytes: Vec::with_capacity(alloc, room)?,

@@ -24,10 +24,10 @@ impl Model for MemSource {
     ghost Value = { SourceInMemory };
 
     ghost view = { λ s. record {
-        left = drop s.at s.bytes.items;
-        failing = s.script.failing.items;
-        calls = s.script.calls;
-        faults = s.faults
+      left = drop s.at s.bytes.items;
+      failing = s.script.failing.items;
+      calls = s.script.calls;
+      faults = s.faults;
     } };
 
     ghost invariant = { λ s. s.at ≤ length s.bytes.items };
@@ -37,7 +37,11 @@ impl MemSource {
     /// A source with these bytes, whose reads fail where their number, from 0, is listed.
     pub fn new(alloc: Global, bytes: &[u8], failing: &[u64]) -> Result<MemSource, AllocError>
         ensures { IfOk result (λ source. source ≡ record {
-            left = bytes.now; failing = failing.now; calls = 0; faults = 0 }) }
+          left = bytes.now;
+          failing = failing.now;
+          calls = 0;
+          faults = 0;
+        }) }
     {
         Ok(MemSource {
             bytes: Vec::from_slice(alloc, bytes)?,

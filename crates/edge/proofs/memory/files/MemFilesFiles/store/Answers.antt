@@ -1,5 +1,5 @@
 use Rattle.std.proofs.Common.{◌≡◌, ap, Some, rules}
-use Rattle.std.specs.FinMap.{get, insert}
+use Rattle.std.specs.FinMap.{insert}
 use Rattle.edge.proofs.HeldLemmas.{insert_holds, insert_keeps}
 use Rattle.edge.proofs.memory.files.MemFilesFiles.store.Goals as goal
 
