@@ -1,4 +1,5 @@
--- Counts of what went wrong, each a u64 that goes up by one at each of its events, and stands still once it is at its end.
+-- Counts of what went wrong. Each is a u64 that goes up by one at each of its events, and stands still
+-- once it is at its end.
 use Rattle.std.specs.Prelude.{ℕ, ◌+◌, ◌-◌, ◌^◌, ◌<◌, nat_lt, if◌then◌else◌}
 use Rattle.edge.specs.declared.files.Fetched.{Fetched}
 use Rattle.edge.specs.declared.files.Fetched.TheVariants as fetched
@@ -17,7 +18,7 @@ Rose before after = after < 2 ^ 64 - 1 → before < after
 abbrev pub one_more : ℕ → ℕ
 one_more count = if nat_lt count (2 ^ 64 - 1) then count + 1 else count
 
--- the counts of files: fetches that were answered by Missing, fetches that failed, stores that failed
+-- the counts of files: fetches that were answered by Missing, fetches and stores that failed
 pub record FileCounts : Type 0 where
   pub misses : ℕ
   pub fetch_faults : ℕ

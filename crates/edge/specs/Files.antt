@@ -20,7 +20,8 @@ HoldsAt held path bytes = IfSome held (λ files. get files path ≡ bytes)
 
 -- what a fetch of a path appends to the old bytes
 abbrev pub FetchGives : Option Held → List ℕ → List ℕ → List ℕ → Fetched → Type 0
-FetchGives held path old new fetched.Found = (bytes : List ℕ) × (new ≡ old ++ bytes) × HoldsAt held path (Some bytes)
+FetchGives held path old new fetched.Found =
+    (bytes : List ℕ) × (new ≡ old ++ bytes) × HoldsAt held path (Some bytes)
 FetchGives held path old new fetched.Missing = (new ≡ old) × HoldsAt held path None
 FetchGives held path old new fetched.Failed = new ≡ old
 FetchGives held path old new fetched.Memory = new ≡ old

@@ -10,7 +10,7 @@ use std::io::{ErrorKind, Read, Write};
 use std::marker::Model;
 use std::{io, rt};
 
-/// The files of the system, as what `main` is handed reaches them. They tell no contents. A path that is
+/// The files of the system, which what `main` is handed reaches. They tell no contents. A path that is
 /// there and can't be opened or read, as a folder, is a fault.
 #[derive(Drop)]
 pub struct DiskFiles<R: rt::Files + Drop> {

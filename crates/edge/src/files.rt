@@ -48,7 +48,8 @@ pub trait Files {
         ensures held { held self.new ≡ held self.old }
 
         ensures missing { result ≡ Fetched.Missing → Rose (misses self.old) (misses self.new) }
-        ensures failed { result ≡ Fetched.Failed → Rose (fetch_faults self.old) (fetch_faults self.new) }
+        ensures failed { result ≡ Fetched.Failed
+            → Rose (fetch_faults self.old) (fetch_faults self.new) }
         ensures misses { misses self.old ≤ misses self.new }
         ensures fetch_faults { fetch_faults self.old ≤ fetch_faults self.new }
         ensures store_faults { store_faults self.new ≡ store_faults self.old };
@@ -57,7 +58,8 @@ pub trait Files {
     fn store(&mut self, path: &str, bytes: &[u8]) -> Stored
         ensures held { StoreDoes (held self.old) (held self.new) path.now bytes.now result }
 
-        ensures failed { result ≡ Stored.Failed → Rose (store_faults self.old) (store_faults self.new) }
+        ensures failed { result ≡ Stored.Failed
+            → Rose (store_faults self.old) (store_faults self.new) }
         ensures store_faults { store_faults self.old ≤ store_faults self.new }
         ensures misses { misses self.new ≡ misses self.old }
         ensures fetch_faults { fetch_faults self.new ≡ fetch_faults self.old };

@@ -1,4 +1,4 @@
-//! What the program reaches outside itself: files, a source of bytes and a sink, in memory and real.
+//! What the program reaches outside itself: files, a source and a sink of bytes, real and in memory.
 #![tactic(auto)]
 
 mod disk;

@@ -1,7 +1,7 @@
 // Standard input and output.
-ghost use Rattle.std.specs.Prelude.{◌≡◌, []};
+ghost use Rattle.std.specs.Prelude.{◌≡◌, ◌<◌, [], length};
 ghost use Rattle.std.specs.Io.{ReadsAtMost, WritesAtMost};
-ghost use Rattle.std.specs.Io.KnownBytes.{ReadConsumes, WriteAppends};
+ghost use Rattle.std.specs.Io.KnownBytes.{IsAtEnd, ReadConsumes, WriteAppends};
 ghost use Rattle.edge.specs.Counts.{counted_read, counted_write};
 ghost use Rattle.edge.specs.Streams.{ReadGives, WriteTakes};
 
@@ -10,8 +10,8 @@ use std::io;
 use std::io::{ErrorKind, Read, Write};
 use std::marker::Model;
 
-/// A source over a reader, as standard input is one. It tells what the reader tells, which of standard
-/// input is nothing.
+/// A source over a reader, as standard input is one. It tells what the reader tells of the bytes to
+/// come: of standard input nothing.
 #[derive(Drop)]
 pub struct StdIn<R: Read + Drop> {
     reader: R,
@@ -56,6 +56,7 @@ impl<R: Read + Drop> Source for StdIn<R> {
 
     fn read(&mut self, buf: &mut [u8]) -> Got
         ensures bytes { ReadGives self.old.left self.new.left buf.new result }
+        ensures end { result ≡ Got.Bytes 0 → 0 < length buf.new → IsAtEnd self.new.left }
         ensures counted { self.new.faults ≡ counted_read result self.old.faults }
     {
         match read_retrying(&mut self.reader, buf) {
@@ -68,8 +69,8 @@ impl<R: Read + Drop> Source for StdIn<R> {
     }
 }
 
-/// A sink over a writer, as standard output is one. It tells what the writer tells, which of standard
-/// output is nothing.
+/// A sink over a writer, as standard output is one. It tells what the writer tells of the bytes that it
+/// took: of standard output nothing.
 #[derive(Drop)]
 pub struct StdOut<W: Write + Drop> {
     writer: W,

@@ -40,8 +40,8 @@ impl Model for MemFiles {
 }
 
 impl MemFiles {
-    /// Files that hold no path, and whose fetches and stores fail where their number, from 0, is listed.
-    /// The two are numbered together.
+    /// Files that hold no path. Fetches and stores are numbered together, from 0, and fail where their
+    /// number is listed.
     pub fn new(alloc: Global, failing: &[u64]) -> Result<MemFiles, AllocError>
         ensures { IfOk result (λ files. files ≡ record {
           held = map.empty;
@@ -93,7 +93,8 @@ impl Files for MemFiles {
     ghost store_faults = { λ s. s.counts.store_faults };
 
     fn fetch(&mut self, path: &str, into: &mut Vec<u8>) -> Fetched
-        ensures bytes { FetchGives (Some self.old.held) path.now into.old.items into.new.items result }
+        ensures bytes { FetchGives (Some self.old.held) path.now
+            into.old.items into.new.items result }
         ensures listed { (result ≡ Fetched.Failed) ↔ Contains self.old.failing self.old.calls }
         ensures memory { result ≡ Fetched.Memory → IsSome (map.get self.old.held path.now) }
         ensures after { self.new ≡ after_fetch result self.old }
@@ -115,7 +116,8 @@ impl Files for MemFiles {
     }
 
     fn store(&mut self, path: &str, bytes: &[u8]) -> Stored
-        ensures held { StoreDoes (Some self.old.held) (Some self.new.held) path.now bytes.now result }
+        ensures held { StoreDoes (Some self.old.held) (Some self.new.held)
+            path.now bytes.now result }
         ensures listed { (result ≡ Stored.Failed) ↔ Contains self.old.failing self.old.calls }
         ensures after { self.new ≡ after_store result path.now bytes.now self.old }
     {

@@ -34,7 +34,7 @@ impl Model for MemSource {
 }
 
 impl MemSource {
-    /// A source with these bytes, whose reads fail where their number, from 0, is listed.
+    /// A source with these bytes. Reads are numbered from 0, and fail where their number is listed.
     pub fn new(alloc: Global, bytes: &[u8], failing: &[u64]) -> Result<MemSource, AllocError>
         ensures { IfOk result (λ source. source ≡ record {
           left = bytes.now;

@@ -1,6 +1,6 @@
 use Rattle.std.proofs.Common.{◌≡◌, ◌+◌, ◌≤◌, ◌++◌, ℕ, List, length, take, drop, ap, sym, ◌∙◌, arith, rules}
 use Rattle.std.proofs.lemmas.Grind.{common_steps}
-use Rattle.std.proofs.lemmas.List.{take-append-drop, drop-drop, drop_all}
+use Rattle.std.proofs.lemmas.List.{take-append-drop, drop-drop}
 use Rattle.edge.proofs.memory.source.MemSourceSource.read.Goals as goal
 
 -- what is copied to the front of the buffer is its front
@@ -19,4 +19,4 @@ returns-clause-bytes c =
     let left : c.split_at.result.1.now ≡ drop at bytes = search rules in
     let copied : take n c.copy_front-count.new.to ≡ take n (drop at bytes) =
     ap (take n) c.copy_front-count.ensures.copied ∙ front_copied c.split_at.result.1.now _ n (omega arith) ∙ ap (take n) left in
-    (search rules, sym (ap (λ s. s.left) c.self.view_is) ∙ reads_front bytes _ at n copied, λ none room. drop_all (at + n) bytes (omega arith))
+    (search rules, sym (ap (λ s. s.left) c.self.view_is) ∙ reads_front bytes _ at n copied)
