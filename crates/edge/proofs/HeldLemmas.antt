@@ -1,7 +1,8 @@
 -- What a map from paths to bytes holds, before and after a change.
-use Rattle.std.proofs.Common.{◌≡◌, ◌≢◌, rules, ℕ, Bool, true, false, cond, List, [], ◌∷◌, map, ap, refl, sym, ◌∙◌, Some, Option, String, Vec, string_bytes}
+use Rattle.std.proofs.Common.{◌≡◌, ◌≢◌, rules, ℕ, Bool, true, false, cond, List, [], ◌∷◌, map, ap, refl, sym, ◌∙◌, None, Some, Option, String, Vec, string_bytes}
 use Rattle.std.specs.declared.alloc.Global.{Global}
-use Rattle.std.specs.Option.{option_map}
+use Rattle.std.specs.Option.{option_map, option_copied, MatchOption, IsSomeAnd}
+use denote.Ref.{Bor}
 use Rattle.std.specs.Ordering.{nat_cmp, eq_by_cmp}
 use Rattle.std.specs.Cmp.{eq_by_cmp_equiv}
 use Rattle.std.specs.Cmp.Lexicographic.{slice_cmp, nat_list_cmp_total}
@@ -52,3 +53,9 @@ insert_holds m path bytes = grind (gets, rules)
 pub insert_keeps : (m : Held) (path bytes other : List ℕ) → other ≢ path → get (insert m path bytes) other ≡ get m other
 insert_keeps m path bytes other apart =
     grind (gets, rules, slice_cmp-IsAntisymmetric nat_cmp-IsAntisymmetric other path)
+
+-- the slice of a vector that was found has its items
+pub slice_of : (found : Option (Bor (Vec ℕ Global))) (slice : Option (Bor (List ℕ))) → MatchOption found (slice ≡ None) (λ v. IsSomeAnd slice (λ s. s.now ≡ v.now.items)) → option_map (λ s. s.now) slice ≡ option_map items (option_copied found)
+slice_of None slice none = ap (option_map (λ s. s.now)) none
+slice_of (Some v) None some = absurd some
+slice_of (Some v) (Some s) same = ap Some same

@@ -76,10 +76,7 @@ impl MemFiles {
     pub fn bytes_at(&self, path: &str) -> Option<&[u8]>
         ensures { option_map (λ bytes. bytes.now) result ≡ map.get self.now.held path.now }
     {
-        match self.held.get(path) {
-            None => None,
-            Some(bytes) => Some(bytes.as_slice()),
-        }
+        self.held.get(path).map(|bytes| bytes.as_slice())
     }
 }
 
