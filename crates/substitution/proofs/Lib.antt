@@ -1,3 +1,5 @@
 pub mod Maps
 pub mod ThenLaws
 pub mod BinderLaws
+pub mod ShiftBounds
+pub mod Closures

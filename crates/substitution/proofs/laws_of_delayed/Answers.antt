@@ -1,0 +1,14 @@
+use Rattle.substitution.proofs.Closures.{closed-make, kid_at-closed_kids, closed-apply, closed-raise, closed-var_below, closed-var_pushed, closed-var_above, closed-var_past}
+use Rattle.substitution.proofs.laws_of_delayed.Goals as goal
+
+pub returns : goal.returns
+returns c = record {
+  of_make = closed-make;
+  of_kid = kid_at-closed_kids;
+  of_apply = closed-apply;
+  of_raise = closed-raise;
+  below = closed-var_below;
+  pushed = closed-var_pushed;
+  above = closed-var_above;
+  past = closed-var_past;
+}
