@@ -176,12 +176,12 @@ apply_under-shift_by t n m =
       ∙ ap (rename t) (sym (raise_index-under n m))
       ∙ sym (raise-rename t n m)
 
-raise_index-below : (from n k : ℕ) → k < from → raise_index from n k ≡ k
+pub raise_index-below : (from n k : ℕ) → k < from → raise_index from n k ≡ k
 raise_index-below zero n k lt = absurd (omega arith)
 raise_index-below (suc from) n zero lt = refl
 raise_index-below (suc from) n (suc k) lt = ap suc (raise_index-below from n k (omega arith))
 
-raise_index-above : (from n k : ℕ) → from ≤ k → raise_index from n k ≡ k + n
+pub raise_index-above : (from n k : ℕ) → from ≤ k → raise_index from n k ≡ k + n
 raise_index-above zero n k le = refl
 raise_index-above (suc from) n zero le = absurd (omega arith)
 raise_index-above (suc from) n (suc k) le =

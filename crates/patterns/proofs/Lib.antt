@@ -1,0 +1,3 @@
+pub mod NormalLaws
+pub mod Soundness
+pub mod SameLaws

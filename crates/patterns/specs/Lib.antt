@@ -1,0 +1,5 @@
+pub mod Patterns
+pub mod Values
+pub mod Normals
+pub mod Fillings
+pub mod Tests
