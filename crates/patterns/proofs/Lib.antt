@@ -1,3 +1,5 @@
+pub mod SameLaws
 pub mod NormalLaws
 pub mod Soundness
-pub mod SameLaws
+pub mod ExampleProofs
+pub mod Differences

@@ -1,5 +1,5 @@
 -- Patterns whose normal terms are equal mean the same at all parts.
-use Rattle.std.proofs.Common.{◌≡◌, ℕ, true, refl, sym, ◌∙◌, ap, ap₂}
+use Rattle.std.proofs.Common.{◌≡◌, ℕ, true, List, [], ◌∷◌, map, refl, sym, ◌∙◌, ap, ap₂}
 use Rattle.theory.specs.Language.{Ctx, Ty, TyEq, Tm, TmEq, Sb}
 use Rattle.theory.specs.Trees.{Make, More, trees_of as list_as_trees, apply, push, then, id}
 use Rattle.theory.specs.Judgements.{WithVar, WithName, WithFace, trees}
@@ -8,9 +8,9 @@ use Rattle.patterns.specs.Patterns.{Pattern, Part, Index, Build, Under, Patterns
 use Rattle.patterns.specs.Values.{Parts, tree_of, trees_of, subst_of, context_of, judged_of, judgement_of}
 use Rattle.patterns.specs.Normals.{Normal, NormalSubst, NormalContext, normals, normals_of, unknown, apply_normal, after}
 use Rattle.patterns.specs.Fillings.{Fits, filled, filled_kids, filled_subst, filled_context, filled_judgement}
-use Rattle.patterns.specs.Tests.{same_tree, same_subst, same_context, same_judgement}
+use Rattle.patterns.specs.Tests.{same_tree, same_subst, same_context, same_judgement, same_judgements}
 use Rattle.patterns.proofs.NormalLaws.{filled-apply_normal, filled-after}
-use Rattle.patterns.proofs.SameLaws.{same_normal-true, same_normal_subst-true, same_normal_context-true, same_normal_judgement-true}
+use Rattle.patterns.proofs.SameLaws.{both, same_normal-true, same_normal_subst-true, same_normal_context-true, same_normal_judgement-true}
 
 -- the normaliser keeps the meaning
 
@@ -74,3 +74,10 @@ same_context-sound v G H h =
 pub same_judgement-sound : (v : Parts trees) (i j : JudgementPattern) → same_judgement i j ≡ true → judgement_of v i ≡ judgement_of v j
 same_judgement-sound v i j h =
     sym (filled-judged_of v unknown v (unknown-fits v) i) ∙ ap (filled_judgement v) (same_normal_judgement-true _ _ h) ∙ filled-judged_of v unknown v (unknown-fits v) j
+
+pub same_judgements-sound : (v : Parts trees) (is js : List JudgementPattern) → same_judgements is js ≡ true → map (judgement_of v) is ≡ map (judgement_of v) js
+same_judgements-sound v [] [] h = refl
+same_judgements-sound v (i ∷ is) (j ∷ js) h =
+    let f = both (same_judgement i j) (same_judgements is js) h in
+    ap₂ ◌∷◌ (same_judgement-sound v i j f.0) (same_judgements-sound v is js f.1)
+same_judgements-sound v _ _ h = absurd (cc h)

@@ -3,3 +3,6 @@ pub mod Values
 pub mod Normals
 pub mod Fillings
 pub mod Tests
+pub mod Conclusions
+pub mod Examples
+pub mod Refusals

@@ -1,5 +1,5 @@
 -- Whether two patterns mean the same whatever their parts are: whether their normal terms are equal.
-use Rattle.std.specs.Prelude.{ℕ, Bool, true, false, ◌&&◌, ◌==◌}
+use Rattle.std.specs.Prelude.{ℕ, List, [], ◌∷◌, Bool, true, false, ◌&&◌, ◌==◌}
 use Rattle.theory.specs.Language.{Judged, Ctx, Ty, TyEq, Tm, TmEq, Sb}
 use Rattle.patterns.specs.Patterns.{Pattern, SubstPattern, ContextPattern, JudgementPattern, ContextOver, ContextPart, Empty, AddVar, AddName, AddFace}
 use Rattle.patterns.specs.Values.{tree_of, subst_of, context_of, judged_of}
@@ -37,3 +37,8 @@ same_context G H = same_normal_context (context_of normals unknown G) (context_o
 
 abbrev pub same_judgement : JudgementPattern → JudgementPattern → Bool
 same_judgement i j = same_normal_judgement (judged_of normals unknown i) (judged_of normals unknown j)
+
+abbrev pub same_judgements : List JudgementPattern → List JudgementPattern → Bool
+same_judgements [] [] = true
+same_judgements (i ∷ is) (j ∷ js) = same_judgement i j && same_judgements is js
+same_judgements _ _ = false
