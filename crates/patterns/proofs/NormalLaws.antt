@@ -10,7 +10,9 @@ use Rattle.substitution.specs.Forms.{drop}
 use Rattle.substitution.specs.Action.{look, ActAlike}
 use Rattle.substitution.proofs.Maps.{under, rename, rename_kids, lifted, lifted_by, replace, rename-replace, raise_index-add, apply_under-replace}
 use Rattle.substitution.proofs.ThenLaws.{apply-replace, apply-apply, act_alike-from_look, look-then, then-assoc, id-then, up-then-push}
-use Rattle.substitution.proofs.BinderLaws.{raise_index-below, raise_index-above, look-drop, drop-drop, act_alike-push, act_alike-then, act_alike-push_drop, act_alike-push_shift_by}
+use Rattle.substitution.proofs.BinderLaws.{look-drop, drop-drop}
+use Rattle.substitution.proofs.ActionLaws.{act_alike-push, act_alike-then, act_alike-push_drop, act_alike-push_shift_by}
+use Rattle.substitution.proofs.RaiseLaws.{raise_index-below, raise_index-above}
 use Rattle.patterns.specs.Values.{Parts}
 use Rattle.patterns.specs.Normals.{Normal, Normals, NormalSubst, NVar, NMake, NPart, NEntry, NoNormals, MoreNormals, NShift, NPush, NRest, is_var, is_entry, push_trimmed, trimmed, shift_past, weaken_from, weaken_kids, weaken_subst, lift_normal, look_normal, drop_one, drop_normal, apply_normal, apply_normals, after}
 use Rattle.patterns.specs.Fillings.{filled, filled_kids, filled_subst}

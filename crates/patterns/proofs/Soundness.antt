@@ -1,11 +1,11 @@
 -- Patterns whose normal terms are equal mean the same at all parts.
 use Rattle.std.proofs.Common.{◌≡◌, ℕ, true, List, [], ◌∷◌, map, refl, sym, ◌∙◌, ap, ap₂}
 use Rattle.theory.specs.Language.{Ctx, Ty, TyEq, Tm, TmEq, Sb}
-use Rattle.theory.specs.Trees.{Make, More, trees_of as list_as_trees, apply, push, then, id}
+use Rattle.theory.specs.Trees.{Make, More, trees_of, apply, push, then, id}
 use Rattle.theory.specs.Judgements.{WithVar, WithName, WithFace, trees}
 use Rattle.substitution.proofs.ThenLaws.{apply-id, then-id, id-then}
 use Rattle.patterns.specs.Patterns.{Pattern, Part, Index, Build, Under, Patterns, NoPatterns, MorePatterns, SubstPattern, SubstPart, ShiftBy, Pushed, Then, ContextPattern, ContextPart, Empty, AddVar, AddName, AddFace, JudgementPattern}
-use Rattle.patterns.specs.Values.{Parts, tree_of, trees_of, subst_of, context_of, judged_of, judgement_of}
+use Rattle.patterns.specs.Values.{Parts, tree_of, kid_trees_of, subst_of, context_of, judged_of, judgement_of}
 use Rattle.patterns.specs.Normals.{Normal, NormalSubst, NormalContext, normals, normals_of, unknown, apply_normal, after}
 use Rattle.patterns.specs.Fillings.{Fits, filled, filled_kids, filled_subst, filled_context, filled_judgement}
 use Rattle.patterns.specs.Tests.{same_tree, same_subst, same_context, same_judgement, same_judgements}
@@ -19,13 +19,13 @@ module _ (v : Parts trees) (u : Parts normals) (w : Parts trees) (fits : Fits v 
     pub filled-tree_of : (p : Pattern) → filled v (tree_of normals u p) ≡ tree_of trees w p
     filled-tree_of (Part k) = fits.tree k
     filled-tree_of (Index k) = refl
-    filled-tree_of (Build op ps) = ap (Make op) (filled-trees_of ps)
+    filled-tree_of (Build op ps) = ap (Make op) (filled-kid_trees_of ps)
     filled-tree_of (Under p d) =
         filled-apply_normal v (subst_of normals u d) (tree_of normals u p) ∙ ap₂ apply (filled-tree_of p) (filled-subst_of d)
 
-    pub filled-trees_of : (ps : Patterns) → filled_kids v (normals_of (trees_of normals u ps)) ≡ list_as_trees (trees_of trees w ps)
-    filled-trees_of NoPatterns = refl
-    filled-trees_of (MorePatterns p ps) = ap₂ More (filled-tree_of p) (filled-trees_of ps)
+    pub filled-kid_trees_of : (ps : Patterns) → filled_kids v (normals_of (kid_trees_of normals u ps)) ≡ trees_of (kid_trees_of trees w ps)
+    filled-kid_trees_of NoPatterns = refl
+    filled-kid_trees_of (MorePatterns p ps) = ap₂ More (filled-tree_of p) (filled-kid_trees_of ps)
 
     pub filled-subst_of : (d : SubstPattern) → filled_subst v (subst_of normals u d) ≡ subst_of trees w d
     filled-subst_of (SubstPart k) = fits.subst k

@@ -1,9 +1,9 @@
 -- Pairs of patterns that mean the same at all parts, and that the test finds the same.
 use Rattle.std.specs.Prelude.{◌≡◌, ℕ, Bool, List, [], ◌∷◌, ◌++◌, codes}
-use Rattle.theory.specs.Language.{Ty}
+use Rattle.theory.specs.Language.{Ty, Sb}
 use Rattle.theory.specs.Judgements.{trees}
-use Rattle.substitution.specs.Forms.{at, lift}
-use Rattle.patterns.specs.Patterns.{Pattern, Part, Index, Under, SubstPattern, SubstPart, ShiftBy, Pushed, ContextPattern, ContextPart, AddVar, AddName, JudgementPattern, patterns}
+use Rattle.substitution.specs.Forms.{at, weaken, lift}
+use Rattle.patterns.specs.Patterns.{Pattern, Part, Index, Under, SubstPattern, SubstPart, ShiftBy, Pushed, Then, ContextPattern, ContextPart, AddVar, AddName, JudgementPattern, patterns}
 use Rattle.patterns.specs.Values.{Parts, judgement_of}
 use Rattle.patterns.specs.Tests.{same_judgement}
 use Rattle.patterns.specs.Conclusions as Rule
@@ -136,7 +136,35 @@ eta_examples =
   ∷ []
 
 abbrev same_type : List ℕ → ContextPattern → Pattern → Pattern → Example
-same_type name C p q = record { name = name; left = Ty C p; right = Ty C q }
+same_type name K p q = record { name = name; left = Ty K p; right = Ty K q }
+
+abbrev same_list : List ℕ → SubstPattern → SubstPattern → Example
+same_list name x y = record { name = name; left = Sb H x G; right = Sb H y G }
+
+abbrev e : SubstPattern
+e = SubstPart 14
+
+abbrev f : SubstPattern
+f = SubstPart 15
+
+-- the two innermost indices exchanged
+abbrev exchange : SubstPattern
+exchange = Pushed (Pushed (ShiftBy 2) (Index 0)) (Index 1)
+
+-- the laws of substitution, as equations of trees or, behind `Sb`, of lists and shifts
+abbrev pub law_examples : List Example
+law_examples =
+    same_type (codes "A[id] = A") G (Under A (ShiftBy 0)) A
+  ∷ same_type (codes "A[d][e] = A[d then e]") G (Under (Under A d) e) (Under A (Then d e))
+  ∷ same_list (codes "(d then e) then f = d then (e then f)") (Then (Then d e) f) (Then d (Then e f))
+  ∷ same_list (codes "id then d = d") (Then (ShiftBy 0) d) d
+  ∷ same_list (codes "d then id = d") (Then d (ShiftBy 0)) d
+  ∷ same_list (codes "up then (push d a) = d") (Then (ShiftBy 1) (Pushed d a)) d
+  ∷ same_type (codes "push up (var 0) acts as id") G (Under A (Pushed (ShiftBy 1) (Index 0))) A
+  ∷ same_type (codes "push (up then d) (0[d]) acts as d") G (Under A (Pushed (Then (ShiftBy 1) d) (Under (Index 0) d))) (Under A d)
+  ∷ same_type (codes "A+{a} = A") G (at patterns (weaken patterns A) a) A
+  ∷ same_type (codes "an exchange undoes itself") G (Under (Under A exchange) exchange) A
+  ∷ []
 
 -- one face of the name: the innermost index becomes an end
 abbrev end : Pattern → SubstPattern
@@ -163,4 +191,4 @@ filling_examples =
   ∷ []
 
 abbrev pub every_example : List Example
-every_example = pi_examples ++ sigma_examples ++ path_examples ++ eta_examples ++ filling_examples
+every_example = pi_examples ++ sigma_examples ++ path_examples ++ eta_examples ++ filling_examples ++ law_examples

@@ -17,12 +17,12 @@ module _ (L : Language) where
     pub tree_of : Parts → Pattern → L.tree
     tree_of v (Part k) = v.tree k
     tree_of v (Index k) = L.var k
-    tree_of v (Build op ps) = L.make op (trees_of v ps)
+    tree_of v (Build op ps) = L.make op (kid_trees_of v ps)
     tree_of v (Under p d) = L.apply (tree_of v p) (subst_of v d)
 
-    pub trees_of : Parts → Patterns → List L.tree
-    trees_of v NoPatterns = []
-    trees_of v (MorePatterns p ps) = tree_of v p ∷ trees_of v ps
+    pub kid_trees_of : Parts → Patterns → List L.tree
+    kid_trees_of v NoPatterns = []
+    kid_trees_of v (MorePatterns p ps) = tree_of v p ∷ kid_trees_of v ps
 
     pub subst_of : Parts → SubstPattern → L.subst
     subst_of v (SubstPart k) = v.subst k

@@ -16,7 +16,7 @@ ghost use Rattle.patterns.specs.Values.{judged_of};
 ghost use Rattle.patterns.specs.Normals.{Normal, NormalSubst, normals, unknown, trimmed, apply_normal, after};
 ghost use Rattle.patterns.specs.Fillings.{Fits, filled, filled_subst, filled_context, filled_judgement};
 ghost use Rattle.patterns.specs.Tests.{same_tree, same_subst, same_context, same_judgement, same_judgements};
-ghost use Rattle.patterns.specs.Examples.{HoldsAtAll, pi_examples, sigma_examples, path_examples, filling_examples, every_example};
+ghost use Rattle.patterns.specs.Examples.{HoldsAtAll, pi_examples, sigma_examples, path_examples, filling_examples, law_examples, every_example};
 ghost use Rattle.patterns.specs.Refusals.{is_refused, Differ, one_index_off};
 
 /// Two patterns that a test accepts mean the same at all parts.
@@ -48,13 +48,14 @@ pub fn normal_terms_are_trees()
 }
 
 /// Examples: a substitution takes the conclusion of each rule of Pi, Sigma and PathP to the conclusion at the substituted
-/// parts, and the line of filling has its ends.
+/// parts, the line of filling has its ends, and the laws of substitution are found.
 pub fn examples()
     ensures hold { All HoldsAtAll every_example }
     ensures pi { length pi_examples ≡ 9 }
     ensures sigma { length sigma_examples ≡ 12 }
     ensures path { length path_examples ≡ 11 }
     ensures filling { length filling_examples ≡ 5 }
+    ensures laws { length law_examples ≡ 10 }
 {
 }
 

@@ -1,5 +1,5 @@
 -- The laws that open a tree under delayed substitutions.
-use Rattle.std.proofs.Common.{◌≡◌, ℕ, zero, suc, ◌+◌, ◌-◌, ◌<◌, ◌≤◌, List, [], ◌∷◌, ◌++◌, Option, Some, None, option_map, map, refl, sym, ◌∙◌, ap, ap₂, add-zero, add_assoc, arith}
+use Rattle.std.proofs.Common.{◌≡◌, ℕ, zero, suc, ◌+◌, ◌-◌, ◌<◌, ◌≤◌, List, [], ◌∷◌, ◌++◌, Some, option_map, map, refl, sym, ◌∙◌, ap, ap₂, add-zero, add_assoc, arith}
 use Rattle.theory.specs.declared.op.Op.{Op}
 use Rattle.theory.specs.Operators.{binds_of}
 use Rattle.theory.specs.Trees.{Tree, Trees, Var, Make, NoTrees, More, Subst, raise, entry, entry_under, apply, apply_under, apply_kids, shift_by, push, then, id}
@@ -9,7 +9,9 @@ use Rattle.substitution.specs.Action.{look, ActAlike, count_of}
 use Rattle.substitution.specs.Shifts.{then_all}
 use Rattle.substitution.specs.Delayed.{Delayed, here, closed, deeper, closed_kids, kid_at}
 use Rattle.substitution.proofs.ThenLaws.{apply-id, apply-then, apply-shift_by}
-use Rattle.substitution.proofs.BinderLaws.{apply_under-lift_by, apply_under-apply_under, apply_under-act_alike, apply_under-shift_by, apply_under-raise, lift_by-add, raise-zero, entry_under-below, entry_under-above, look-past}
+use Rattle.substitution.proofs.BinderLaws.{apply_under-lift_by, apply_under-apply_under, lift_by-add}
+use Rattle.substitution.proofs.ActionLaws.{apply_under-act_alike}
+use Rattle.substitution.proofs.RaiseLaws.{apply_under-shift_by, apply_under-raise, raise-zero, entry_under-below, entry_under-above, look-past}
 
 -- an operator keeps its head, and its kids carry the list deeper
 
@@ -32,12 +34,12 @@ kid_at-from NoTrees op at k env = refl
 kid_at-from (More t rest) op at zero env = ap (λ j. Some (closed t (deeper (binds_of op j) env))) (sym (add-zero at))
 kid_at-from (More t rest) op at (suc k) env =
     kid_at-from rest op (suc at) k env
-      ∙ ap (λ j. option_map (λ t. closed t (deeper (binds_of op j) env)) (kid_at rest k)) (let e : suc at + k ≡ at + suc k = omega arith in e)
+    ∙ ap (λ j. option_map (λ t. closed t (deeper (binds_of op j) env)) (kid_at rest k)) (let e : suc at + k ≡ at + suc k = omega arith in e)
 
 pub kid_at-closed_kids : (ts : Trees) (op : Op) (k : ℕ) (env : List Delayed) → kid_at (closed_kids ts op 0 env) k ≡ option_map (λ t. closed t (deeper (binds_of op k) env)) (kid_at ts k)
 kid_at-closed_kids ts op k env =
     kid_at-from ts op 0 k env
-      ∙ ap (λ j. option_map (λ t. closed t (deeper (binds_of op j) env)) (kid_at ts k)) (let e : 0 + k ≡ k = omega arith in e)
+    ∙ ap (λ j. option_map (λ t. closed t (deeper (binds_of op j) env)) (kid_at ts k)) (let e : 0 + k ≡ k = omega arith in e)
 
 -- trees are the same list where each place holds the same
 pub trees-from_kid_at : (ts us : Trees) → ((k : ℕ) → kid_at ts k ≡ kid_at us k) → ts ≡ us
@@ -67,9 +69,9 @@ closed-var_below k i env lt = ap (λ u. closed u env) (entry_under-below i.depth
 pub closed-var_above : (k : ℕ) (i : Delayed) (env : List Delayed) → i.depth ≤ k → closed (Var k) (i ∷ env) ≡ closed (look i.subst (k - i.depth)) (here (shift_by i.depth) ∷ env)
 closed-var_above k i env le =
     ap (λ u. closed u env)
-      (ap (entry_under i.depth i.subst) (let e : k ≡ k - i.depth + i.depth = omega arith in e)
-        ∙ entry_under-above i.depth i.subst (k - i.depth))
-      ∙ closed-raise (look i.subst (k - i.depth)) i.depth env
+    (ap (entry_under i.depth i.subst) (let e : k ≡ k - i.depth + i.depth = omega arith in e)
+    ∙ entry_under-above i.depth i.subst (k - i.depth))
+    ∙ closed-raise (look i.subst (k - i.depth)) i.depth env
 
 entry-kid_at : (p : Trees) (s j : ℕ) (a : Tree) → kid_at p j ≡ Some a → entry p s j ≡ a
 entry-kid_at NoTrees s j a h = absurd (cc h)
@@ -79,33 +81,33 @@ entry-kid_at (More t rest) s (suc j) a h = entry-kid_at rest s j a h
 pub closed-var_past : (k : ℕ) (i : Delayed) (env : List Delayed) → i.depth + count_of i.subst.pushed ≤ k → closed (Var k) (i ∷ env) ≡ closed (Var (k - count_of i.subst.pushed + i.subst.shift)) env
 closed-var_past k i env le =
     closed-var_above k i env (omega arith)
-      ∙ ap (λ u. closed u (here (shift_by i.depth) ∷ env))
-          (ap (look i.subst) (let e : k - i.depth ≡ k - i.depth - count_of i.subst.pushed + count_of i.subst.pushed = omega arith in e)
-            ∙ look-past i.subst (k - i.depth - count_of i.subst.pushed))
-      ∙ ap (λ j. closed (Var j) env) (let e : k - i.depth - count_of i.subst.pushed + i.subst.shift + i.depth ≡ k - count_of i.subst.pushed + i.subst.shift = omega arith in e)
+    ∙ ap (λ u. closed u (here (shift_by i.depth) ∷ env))
+    (ap (look i.subst) (let e : k - i.depth ≡ k - i.depth - count_of i.subst.pushed + count_of i.subst.pushed = omega arith in e)
+    ∙ look-past i.subst (k - i.depth - count_of i.subst.pushed))
+    ∙ ap (λ j. closed (Var j) env) (let e : k - i.depth - count_of i.subst.pushed + i.subst.shift + i.depth ≡ k - count_of i.subst.pushed + i.subst.shift = omega arith in e)
 
 pub closed-var_pushed : (k : ℕ) (i : Delayed) (env : List Delayed) (a : Tree) → i.depth ≤ k → kid_at i.subst.pushed (k - i.depth) ≡ Some a → closed (Var k) (i ∷ env) ≡ closed a (here (shift_by i.depth) ∷ env)
 closed-var_pushed k i env a le h =
     closed-var_above k i env le
-      ∙ ap (λ u. closed u (here (shift_by i.depth) ∷ env)) (entry-kid_at i.subst.pushed i.subst.shift (k - i.depth) a h)
+    ∙ ap (λ u. closed u (here (shift_by i.depth) ∷ env)) (entry-kid_at i.subst.pushed i.subst.shift (k - i.depth) a h)
 
 -- a variable under an entry whose substitution is met row by row: pushed, a shift, or one after another
 
 pub closed-var_push_here : (n : ℕ) (d : Subst) (a : Tree) (env : List Delayed) → closed (Var n) (record { depth = n; subst = push d a } ∷ env) ≡ closed a (here (shift_by n) ∷ env)
 closed-var_push_here n d a env =
     closed-var_above n (record { depth = n; subst = push d a }) env (omega arith)
-      ∙ ap (λ j. closed (look (push d a) j) (here (shift_by n) ∷ env)) (let e : n - n ≡ 0 = omega arith in e)
+    ∙ ap (λ j. closed (look (push d a) j) (here (shift_by n) ∷ env)) (let e : n - n ≡ 0 = omega arith in e)
 
 pub closed-var_push_next : (k n : ℕ) (d : Subst) (a : Tree) (env : List Delayed) → n ≤ k → closed (Var (suc k)) (record { depth = n; subst = push d a } ∷ env) ≡ closed (Var k) (record { depth = n; subst = d } ∷ env)
 closed-var_push_next k n d a env le =
     closed-var_above (suc k) (record { depth = n; subst = push d a }) env (omega arith)
-      ∙ ap (λ j. closed (look (push d a) j) (here (shift_by n) ∷ env)) (let e : suc k - n ≡ suc (k - n) = omega arith in e)
-      ∙ sym (closed-var_above k (record { depth = n; subst = d }) env le)
+    ∙ ap (λ j. closed (look (push d a) j) (here (shift_by n) ∷ env)) (let e : suc k - n ≡ suc (k - n) = omega arith in e)
+    ∙ sym (closed-var_above k (record { depth = n; subst = d }) env le)
 
 pub closed-var_shift_by : (k n m : ℕ) (env : List Delayed) → n ≤ k → closed (Var k) (record { depth = n; subst = shift_by m } ∷ env) ≡ closed (Var (k + m)) env
 closed-var_shift_by k n m env le =
     closed-var_past k (record { depth = n; subst = shift_by m }) env (omega arith)
-      ∙ ap (λ j. closed (Var j) env) (let e : k - 0 + m ≡ k + m = omega arith in e)
+    ∙ ap (λ j. closed (Var j) env) (let e : k - 0 + m ≡ k + m = omega arith in e)
 
 -- the list itself
 
@@ -126,10 +128,10 @@ pub closed-raise_deeper : (t : Tree) (n : ℕ) (env : List Delayed) → closed (
 closed-raise_deeper t n [] = refl
 closed-raise_deeper t n (i ∷ env) =
     ap (λ u. closed u (deeper n env))
-      (ap (λ m. apply_under (raise t 0 n) m i.subst) (let e : i.depth + n ≡ n + i.depth + 0 = omega arith in e)
-        ∙ apply_under-raise t 0 n i.depth i.subst
-        ∙ ap (λ m. raise (apply_under t m i.subst) 0 n) (add-zero i.depth))
-      ∙ closed-raise_deeper (apply_under t i.depth i.subst) n env
+    (ap (λ m. apply_under (raise t 0 n) m i.subst) (let e : i.depth + n ≡ n + i.depth + 0 = omega arith in e)
+    ∙ apply_under-raise t 0 n i.depth i.subst
+    ∙ ap (λ m. raise (apply_under t m i.subst) 0 n) (add-zero i.depth))
+    ∙ closed-raise_deeper (apply_under t i.depth i.subst) n env
 
 -- a lift is one more entry at the end
 pub closed-shift_by_last : (t : Tree) (n : ℕ) (env : List Delayed) → closed t (env ++ here (shift_by n) ∷ []) ≡ raise (closed t env) 0 n
@@ -143,7 +145,7 @@ closed-then t n d e env = ap (λ u. closed u env) (apply_under-apply_under t n d
 pub closed-lift_by : (t : Tree) (n b : ℕ) (d : Subst) (env : List Delayed) → closed t (record { depth = n + b; subst = d } ∷ env) ≡ closed t (record { depth = b; subst = lift_by trees n d } ∷ env)
 closed-lift_by t n b d env =
     ap (λ u. closed u env)
-      (apply_under-lift_by t (n + b) d ∙ ap (apply t) (lift_by-add b n d) ∙ sym (apply_under-lift_by t b (lift_by trees n d)))
+    (apply_under-lift_by t (n + b) d ∙ ap (apply t) (lift_by-add b n d) ∙ sym (apply_under-lift_by t b (lift_by trees n d)))
 
 pub closed-id : (t : Tree) (n : ℕ) (env : List Delayed) → closed t (record { depth = n; subst = id } ∷ env) ≡ closed t env
 closed-id t n env = ap (λ u. closed u env) (apply_under-shift_by t n 0 ∙ raise-zero t n)

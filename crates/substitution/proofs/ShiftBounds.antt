@@ -1,5 +1,5 @@
 -- What shifts and indices grow to.
-use Rattle.std.proofs.Common.{◌≡◌, ℕ, zero, suc, ◌+◌, ◌-◌, ◌*◌, ◌^◌, ◌<◌, ◌≤◌, List, [], ◌∷◌, length, refl, ◌∙◌, ap, arith}
+use Rattle.std.proofs.Common.{◌≡◌, ℕ, zero, suc, ◌+◌, ◌-◌, ◌*◌, ◌^◌, ◌<◌, ◌≤◌, List, [], ◌∷◌, length, arith}
 use Rattle.std.specs.List.{All}
 use Rattle.theory.specs.Trees.{Trees, NoTrees, More, Subst, without, then_from, then}
 use Rattle.substitution.specs.Action.{count_of}
@@ -49,3 +49,12 @@ shift-then_all-bound b (d ∷ ds) all =
 pub index-then_all-fits : (ds : List Subst) (k : ℕ) → All (λ d. d.shift ≤ greatest_shift) ds → length ds < 2 ^ 64 → k < 2 ^ 32 → k + (then_all ds).shift < 2 ^ 128
 index-then_all-fits ds k all few small =
     let h = shift-then_all-bound greatest_shift ds all in omega arith
+
+-- A walk through delayed substitutions goes on at `k - trees + shift` past an entry. After n of them, and fewer than
+-- 2 ^ 64 are met, an index of 32 bits fits 128 bits.
+
+pub index-step : (k n trees shift : ℕ) → k ≤ 2 ^ 32 + n * greatest_shift → shift ≤ greatest_shift → k - trees + shift ≤ 2 ^ 32 + (n + 1) * greatest_shift
+index-step k n trees shift hk hs = omega arith
+
+pub index-fits : (k n : ℕ) → k ≤ 2 ^ 32 + n * greatest_shift → n < 2 ^ 64 → k < 2 ^ 128
+index-fits k n hk hn = omega arith

@@ -1,11 +1,9 @@
 -- The laws of substitutions as data: a shift with a list of pushed trees.
-use Rattle.std.proofs.Common.{◌≡◌, ℕ, zero, suc, ◌+◌, ◌-◌, refl, sym, ◌∙◌, ap, ap₂, add-zero, add-suc, zero-add, arith}
+use Rattle.std.proofs.Common.{◌≡◌, ℕ, zero, suc, ◌+◌, refl, sym, ◌∙◌, ap, ap₂, add-zero, add-suc, zero-add, arith}
 use Rattle.std.proofs.Math.Path.{fun_ext}
-use Rattle.theory.specs.Trees.{Tree, Trees, Var, Make, NoTrees, More, Subst, raise, raise_index, entry, entry_under, apply_under, apply, shift_by, push, without, then_from, then, id, up}
-use Rattle.theory.specs.Judgements.{trees}
-use Rattle.substitution.specs.Forms.{at, weaken, lift, lift_by, drop}
-use Rattle.substitution.specs.Action.{look, ActAlike, count_of}
-use Rattle.substitution.proofs.Maps.{under, rename, lifted, lifted_by, replace, rename-rename, rename-same, replace-rename, rename-replace, replace-replace, replace-vars, replace-same, raise-rename, raise-one, apply_under-replace}
+use Rattle.theory.specs.Trees.{Tree, Trees, Var, NoTrees, More, Subst, raise, entry, apply, shift_by, push, without, then_from, then, id, up}
+use Rattle.substitution.specs.Action.{look, ActAlike}
+use Rattle.substitution.proofs.Maps.{replace, replace-replace, replace-vars, replace-same, raise-rename, apply_under-replace}
 
 -- one substitution
 
@@ -42,10 +40,10 @@ look-then d e k = look-then_from d.pushed d.shift e k
 pub apply-then : (t : Tree) (d e : Subst) → apply t (then d e) ≡ apply (apply t d) e
 apply-then t d e =
     apply-replace t (then d e)
-      ∙ ap (replace t) (fun_ext (λ k. look-then d e k ∙ apply-replace (look d k) e))
-      ∙ sym (replace-replace t (look d) (look e))
-      ∙ ap (λ u. replace u (look e)) (sym (apply-replace t d))
-      ∙ sym (apply-replace (apply t d) e)
+    ∙ ap (replace t) (fun_ext (λ k. look-then d e k ∙ apply-replace (look d k) e))
+    ∙ sym (replace-replace t (look d) (look e))
+    ∙ ap (λ u. replace u (look e)) (sym (apply-replace t d))
+    ∙ sym (apply-replace (apply t d) e)
 
 pub apply-apply : (t : Tree) (d e : Subst) → apply (apply t d) e ≡ apply t (then d e)
 apply-apply t d e = sym (apply-then t d e)

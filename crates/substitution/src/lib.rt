@@ -22,8 +22,7 @@ pub fn laws_of_apply()
     ensures apply_shift_by { (t : Tree) (n : ℕ) → apply t (shift_by n) ≡ raise t 0 n }
     ensures look_then { (d e : Subst) (k : ℕ) → look (then d e) k ≡ apply (look d k) e }
     ensures look_decides { (d e : Subst) → ((k : ℕ) → look d k ≡ look e k) → ActAlike d e }
-{
-}
+{}
 
 /// Equations of substitutions: one list and one shift on both sides.
 pub fn laws_of_then()
@@ -37,8 +36,7 @@ pub fn laws_of_then()
     ensures drop_drop { (n m : ℕ) (d : Subst) → drop trees n (drop trees m d) ≡ drop trees (n + m) d }
     ensures lift_then { (d e : Subst) → lift trees (then d e) ≡ then (lift trees d) (lift trees e) }
     ensures lift_then_push { (d e : Subst) (a : Tree) → then (lift trees d) (push e a) ≡ push (then d e) a }
-{
-}
+{}
 
 /// Substitutions that do the same to every tree, though their lists and shifts differ.
 pub fn laws_of_action()
@@ -49,8 +47,7 @@ pub fn laws_of_action()
     ensures of_then { (c d e f : Subst) → ActAlike c d → ActAlike e f → ActAlike (then c e) (then d f) }
     ensures of_push { (d e : Subst) (a : Tree) → ActAlike d e → ActAlike (push d a) (push e a) }
     ensures of_lift { (d e : Subst) → ActAlike d e → ActAlike (lift trees d) (lift trees e) }
-{
-}
+{}
 
 /// Substitution under binders: instances, weakening and lifting.
 pub fn laws_under_binders()
@@ -62,8 +59,7 @@ pub fn laws_under_binders()
     ensures apply_under_lift_by { (t : Tree) (n : ℕ) (d : Subst) → apply_under t n d ≡ apply t (lift_by trees n d) }
     ensures apply_under_apply_under { (t : Tree) (n : ℕ) (d e : Subst) → apply_under (apply_under t n d) n e ≡ apply_under t n (then d e) }
     ensures apply_under_shift_by { (t : Tree) (n m : ℕ) → apply_under t n (shift_by m) ≡ raise t n m }
-{
-}
+{}
 
 /// Raising, which is weakening under binders. A substitution leaves what was raised past it.
 pub fn laws_of_raise()
@@ -72,8 +68,7 @@ pub fn laws_of_raise()
     ensures raise_raise_above { (t : Tree) (i m j n : ℕ) → raise (raise t i m) (i + m + j) n ≡ raise (raise t (i + j) n) i m }
     ensures apply_under_raise { (t : Tree) (c n m : ℕ) (d : Subst) → apply_under (raise t c n) (n + m + c) d ≡ raise (apply_under t (m + c) d) c n }
     ensures apply_under_raise_past { (t : Tree) (n m : ℕ) (d : Subst) → apply_under (raise t n (m + count_of d.pushed)) n d ≡ raise t n (m + d.shift) }
-{
-}
+{}
 
 /// The shift and the number of trees of one substitution after another, and what they grow to.
 pub fn bounds_of_shifts()
@@ -85,8 +80,11 @@ pub fn bounds_of_shifts()
 
     // An index of 32 bits under fewer than 2 ^ 64 of them fits 128 bits.
     ensures all { (ds : List Subst) (k : ℕ) → All (λ d. d.shift ≤ greatest_shift) ds → length ds < 2 ^ 64 → k < 2 ^ 32 → k + (then_all ds).shift < 2 ^ 128 }
-{
-}
+
+    // The index with which a walk goes on past an entry, after n entries.
+    ensures step { (k n trees shift : ℕ) → k ≤ 2 ^ 32 + n * greatest_shift → shift ≤ greatest_shift → k - trees + shift ≤ 2 ^ 32 + (n + 1) * greatest_shift }
+    ensures fits { (k n : ℕ) → k ≤ 2 ^ 32 + n * greatest_shift → n < 2 ^ 64 → k < 2 ^ 128 }
+{}
 
 /// What opens a tree under delayed substitutions by one operator: the operator keeps its head and passes the list to
 /// its kids, deeper by what they bind; an instance adds to the list; a variable skips an entry or becomes it.
@@ -99,8 +97,7 @@ pub fn laws_of_delayed()
     ensures pushed { (k : ℕ) (i : Delayed) (env : List Delayed) (a : Tree) → i.depth ≤ k → kid_at i.subst.pushed (k - i.depth) ≡ Some a → closed (Var k) (i ∷ env) ≡ closed a (here (shift_by i.depth) ∷ env) }
     ensures above { (k : ℕ) (i : Delayed) (env : List Delayed) → i.depth ≤ k → closed (Var k) (i ∷ env) ≡ closed (look i.subst (k - i.depth)) (here (shift_by i.depth) ∷ env) }
     ensures past { (k : ℕ) (i : Delayed) (env : List Delayed) → i.depth + count_of i.subst.pushed ≤ k → closed (Var k) (i ∷ env) ≡ closed (Var (k - count_of i.subst.pushed + i.subst.shift)) env }
-{
-}
+{}
 
 /// A variable under an entry whose substitution is opened by one push, one shift or one `then`.
 pub fn laws_of_delayed_by_rows()
@@ -109,8 +106,7 @@ pub fn laws_of_delayed_by_rows()
     ensures shift_by { (k n m : ℕ) (env : List Delayed) → n ≤ k → closed (Var k) (record { depth = n; subst = shift_by m } ∷ env) ≡ closed (Var (k + m)) env }
     ensures one_after_another { (t : Tree) (n : ℕ) (d e : Subst) (env : List Delayed) → closed t (record { depth = n; subst = then d e } ∷ env) ≡ closed t (record { depth = n; subst = d } ∷ record { depth = n; subst = e } ∷ env) }
     ensures all_at_once { (t : Tree) (ds : List Subst) → apply t (then_all ds) ≡ closed t (map here ds) }
-{
-}
+{}
 
 /// The list of delayed substitutions itself: met under more binders, raised as a whole, shortened.
 pub fn laws_of_lists()
@@ -120,5 +116,4 @@ pub fn laws_of_lists()
     ensures deeper_twice { (a b : ℕ) (env : List Delayed) → deeper b (deeper a env) ≡ deeper (a + b) env }
     ensures depth_is_lifting { (t : Tree) (n b : ℕ) (d : Subst) (env : List Delayed) → closed t (record { depth = n + b; subst = d } ∷ env) ≡ closed t (record { depth = b; subst = lift_by trees n d } ∷ env) }
     ensures of_id { (t : Tree) (n : ℕ) (env : List Delayed) → closed t (record { depth = n; subst = id } ∷ env) ≡ closed t env }
-{
-}
+{}

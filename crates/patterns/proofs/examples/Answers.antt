@@ -9,4 +9,5 @@ returns c = record {
   sigma = refl;
   path = refl;
   filling = refl;
+  laws = refl;
 }

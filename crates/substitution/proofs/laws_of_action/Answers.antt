@@ -1,4 +1,4 @@
-use Rattle.substitution.proofs.BinderLaws.{act_alike-push_shift_by, push_up-is_not-id, act_alike-push_drop, act_alike-then, act_alike-push, act_alike-lift}
+use Rattle.substitution.proofs.ActionLaws.{act_alike-push_shift_by, push_up-is_not-id, act_alike-push_drop, act_alike-then, act_alike-push, act_alike-lift}
 use Rattle.substitution.proofs.laws_of_action.Goals as goal
 
 pub returns : goal.returns

@@ -1,4 +1,4 @@
-use Rattle.substitution.proofs.BinderLaws.{raise-zero, raise-raise, raise-raise_above, apply_under-raise, apply_under-raise_past}
+use Rattle.substitution.proofs.RaiseLaws.{raise-zero, raise-raise, raise-raise_above, apply_under-raise, apply_under-raise_past}
 use Rattle.substitution.proofs.laws_of_raise.Goals as goal
 
 pub returns : goal.returns

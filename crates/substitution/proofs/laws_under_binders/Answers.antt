@@ -1,4 +1,5 @@
-use Rattle.substitution.proofs.BinderLaws.{apply-at, at-apply_lift, apply-weaken, at-weaken, weaken-apply, apply_under-lift_by, apply_under-apply_under, apply_under-shift_by}
+use Rattle.substitution.proofs.BinderLaws.{apply-at, at-apply_lift, apply-weaken, at-weaken, weaken-apply, apply_under-lift_by, apply_under-apply_under}
+use Rattle.substitution.proofs.RaiseLaws.{apply_under-shift_by}
 use Rattle.substitution.proofs.laws_under_binders.Goals as goal
 
 pub returns : goal.returns
