@@ -3,7 +3,7 @@ use Rattle.std.proofs.Common.{◌≡◌, ℕ, zero, suc, ◌+◌, true, [], ◌�
 use Rattle.theory.specs.declared.op.Op.TheVariants as O
 use Rattle.theory.specs.Language.{Tm}
 use Rattle.substitution.specs.Forms.{at, lift}
-use Rattle.patterns.specs.Patterns.{Pattern, Part, Index, Build, Under, SubstPattern, SubstPart, ShiftBy, Pushed, Then, ContextPart, patterns, patterns_of}
+use Rattle.patterns.specs.Patterns.{Pattern, Part, Index, Build, Under, SubstPart, Pushed, Then, ContextPart, patterns, patterns_of}
 use Rattle.patterns.specs.Tests.{same_judgement}
 
 -- 2 ^ n - 1 functions, n deep, over 2 ^ n applications, each to an index of its own

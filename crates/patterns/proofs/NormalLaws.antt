@@ -1,22 +1,21 @@
 -- Filling in the unknown parts keeps weakening, trimming and substitution.
-use Rattle.std.proofs.Common.{◌≡◌, ℕ, zero, suc, ◌+◌, ◌-◌, ◌<◌, ◌≤◌, ◌⊎◌, Bool, true, false, ◌&&◌, ◌==◌, cond, refl, sym, ◌∙◌, ap, ap₂, inl, inr, zero-add, add-zero, add-suc, arith}
+use Rattle.std.proofs.Common.{◌≡◌, ℕ, zero, suc, ◌+◌, ◌-◌, ◌<◌, ◌≤◌, ◌⊎◌, Bool, true, false, cond, refl, sym, ◌∙◌, ap, ap₂, inl, inr, zero-add, arith}
 use Rattle.std.proofs.Math.Path.{fun_ext}
-use denote.Enum.Bare.{same_true}
 use Rattle.theory.specs.declared.op.Op.{Op}
 use Rattle.theory.specs.Operators.{binds_of}
-use Rattle.theory.specs.Trees.{Tree, Trees, Var, Make, NoTrees, More, Subst, raise_index, entry, apply, apply_kids, apply_under, shift_by, push, then, up}
+use Rattle.theory.specs.Trees.{Tree, Var, Make, More, Subst, raise_index, apply, apply_kids, apply_under, shift_by, push, then, up}
 use Rattle.theory.specs.Judgements.{trees}
 use Rattle.substitution.specs.Forms.{drop}
 use Rattle.substitution.specs.Action.{look, ActAlike}
-use Rattle.substitution.proofs.Maps.{under, rename, rename_kids, lifted, lifted_by, replace, rename-replace, raise_index-add, apply_under-replace}
-use Rattle.substitution.proofs.ThenLaws.{apply-replace, apply-apply, act_alike-from_look, look-then, then-assoc, id-then, up-then-push}
+use Rattle.substitution.proofs.Maps.{rename, rename_kids, lifted, lifted_by, replace, rename-replace, raise_index-add, apply_under-replace}
+use Rattle.substitution.proofs.ThenLaws.{apply-replace, apply-apply, look-then, then-assoc, id-then, up-then-push}
 use Rattle.substitution.proofs.BinderLaws.{look-drop, drop-drop}
 use Rattle.substitution.proofs.ActionLaws.{act_alike-push, act_alike-then, act_alike-push_drop, act_alike-push_shift_by}
 use Rattle.substitution.proofs.RaiseLaws.{raise_index-below, raise_index-above}
 use Rattle.patterns.specs.Values.{Parts}
 use Rattle.patterns.specs.Normals.{Normal, Normals, NormalSubst, NVar, NMake, NPart, NEntry, NoNormals, MoreNormals, NShift, NPush, NRest, is_var, is_entry, push_trimmed, trimmed, shift_past, weaken_from, weaken_kids, weaken_subst, lift_normal, look_normal, drop_one, drop_normal, apply_normal, apply_normals, after}
 use Rattle.patterns.specs.Fillings.{filled, filled_kids, filled_subst}
-use Rattle.patterns.proofs.SameLaws.{both, is_var-true, is_entry-true}
+use Rattle.patterns.proofs.SameLaws.{is_var-true, is_entry-true}
 
 -- weakening
 
@@ -42,9 +41,9 @@ by_difference c n = grind arith
 weakened-apply : (c : ℕ) (t : Tree) (d e : Subst) → ((k : ℕ) → look d k ≡ rename (look e k) (raise_index c 1)) → apply t d ≡ rename (apply t e) (raise_index c 1)
 weakened-apply c t d e h =
     apply-replace t d
-      ∙ ap (replace t) (fun_ext h)
-      ∙ sym (rename-replace t (look e) (raise_index c 1))
-      ∙ ap (λ u. rename u (raise_index c 1)) (sym (apply-replace t e))
+    ∙ ap (replace t) (fun_ext h)
+    ∙ sym (rename-replace t (look e) (raise_index c 1))
+    ∙ ap (λ u. rename u (raise_index c 1)) (sym (apply-replace t e))
 
 weakened-then : (c : ℕ) (x d e : Subst) → ((k : ℕ) → look d k ≡ rename (look e k) (raise_index c 1)) → (k : ℕ) → look (then x d) k ≡ rename (look (then x e) k) (raise_index c 1)
 weakened-then c x d e h k =
@@ -104,8 +103,8 @@ filled-look_normal v (NPush d t) zero = refl
 filled-look_normal v (NPush d t) (suc k) = filled-look_normal v d k
 filled-look_normal v (NRest n p s) k =
     filled-trimmed v s (look (v.subst p) (k + n))
-      ∙ ap (λ u. apply u (filled_subst v s)) (sym (look-drop n (v.subst p) k))
-      ∙ sym (look-then (drop trees n (v.subst p)) (filled_subst v s) k)
+    ∙ ap (λ u. apply u (filled_subst v s)) (sym (look-drop n (v.subst p) k))
+    ∙ sym (look-then (drop trees n (v.subst p)) (filled_subst v s) k)
 
 filled-drop_one : (v : Parts trees) (d : NormalSubst) → filled_subst v (drop_one d) ≡ then up (filled_subst v d)
 filled-drop_one v (NShift n) = ap shift_by (let e : suc n ≡ n + 1 = omega arith in e)
@@ -120,9 +119,9 @@ filled-drop_normal : (v : Parts trees) (n : ℕ) (d : NormalSubst) → filled_su
 filled-drop_normal v zero d = sym (id-then (filled_subst v d))
 filled-drop_normal v (suc n) d =
     filled-drop_normal v n (drop_one d)
-      ∙ ap (drop trees n) (filled-drop_one v d)
-      ∙ drop-drop n 1 (filled_subst v d)
-      ∙ ap (λ j. drop trees j (filled_subst v d)) (let e : n + 1 ≡ suc n = omega arith in e)
+    ∙ ap (drop trees n) (filled-drop_one v d)
+    ∙ drop-drop n 1 (filled_subst v d)
+    ∙ ap (λ j. drop trees j (filled_subst v d)) (let e : n + 1 ≡ suc n = omega arith in e)
 
 look-lift_normal_one : (v : Parts trees) (d : NormalSubst) (k : ℕ) → look (filled_subst v (NPush (weaken_subst 0 d) (NVar 0))) k ≡ lifted (look (filled_subst v d)) k
 look-lift_normal_one v d zero = refl
@@ -138,9 +137,9 @@ look-lift_normal v (suc b) d = fun_ext (look-lift_normal_one v (lift_normal b d)
 apply-lift_normal : (v : Parts trees) (b : ℕ) (d : NormalSubst) (t : Tree) → apply t (filled_subst v (lift_normal b d)) ≡ apply_under t (0 + b) (filled_subst v d)
 apply-lift_normal v b d t =
     apply-replace t (filled_subst v (lift_normal b d))
-      ∙ ap (replace t) (look-lift_normal v b d)
-      ∙ sym (apply_under-replace t b (filled_subst v d))
-      ∙ ap (λ n. apply_under t n (filled_subst v d)) (sym (zero-add b))
+    ∙ ap (replace t) (look-lift_normal v b d)
+    ∙ sym (apply_under-replace t b (filled_subst v d))
+    ∙ ap (λ n. apply_under t n (filled_subst v d)) (sym (zero-add b))
 
 mutual
   pub filled-apply_normal : (v : Parts trees) (d : NormalSubst) (t : Normal) → filled v (apply_normal d t) ≡ apply (filled v t) (filled_subst v d)

@@ -1,12 +1,12 @@
 -- Patterns whose normal terms are equal mean the same at all parts.
-use Rattle.std.proofs.Common.{◌≡◌, ℕ, true, List, [], ◌∷◌, map, refl, sym, ◌∙◌, ap, ap₂}
+use Rattle.std.proofs.Common.{◌≡◌, true, List, [], ◌∷◌, map, refl, sym, ◌∙◌, ap, ap₂}
 use Rattle.theory.specs.Language.{Ctx, Ty, TyEq, Tm, TmEq, Sb}
 use Rattle.theory.specs.Trees.{Make, More, trees_of, apply, push, then, id}
 use Rattle.theory.specs.Judgements.{WithVar, WithName, WithFace, trees}
 use Rattle.substitution.proofs.ThenLaws.{apply-id, then-id, id-then}
 use Rattle.patterns.specs.Patterns.{Pattern, Part, Index, Build, Under, Patterns, NoPatterns, MorePatterns, SubstPattern, SubstPart, ShiftBy, Pushed, Then, ContextPattern, ContextPart, Empty, AddVar, AddName, AddFace, JudgementPattern}
 use Rattle.patterns.specs.Values.{Parts, tree_of, kid_trees_of, subst_of, context_of, judged_of, judgement_of}
-use Rattle.patterns.specs.Normals.{Normal, NormalSubst, NormalContext, normals, normals_of, unknown, apply_normal, after}
+use Rattle.patterns.specs.Normals.{normals, normals_of, unknown}
 use Rattle.patterns.specs.Fillings.{Fits, filled, filled_kids, filled_subst, filled_context, filled_judgement}
 use Rattle.patterns.specs.Tests.{same_tree, same_subst, same_context, same_judgement, same_judgements}
 use Rattle.patterns.proofs.NormalLaws.{filled-apply_normal, filled-after}

@@ -1,11 +1,11 @@
 -- What a normal term with unknown parts means at given parts.
 use Rattle.std.specs.Prelude.{◌≡◌, ℕ}
-use Rattle.theory.specs.Language.{Judged, Ctx, Ty, TyEq, Tm, TmEq, Sb}
+use Rattle.theory.specs.Language.{Ctx, Ty, TyEq, Tm, TmEq, Sb}
 use Rattle.theory.specs.Trees.{Tree, Trees, Var, Make, NoTrees, More, Subst, apply, shift_by, push, then}
 use Rattle.theory.specs.Judgements.{Context, Nil, WithVar, WithName, WithFace, trees, Judgement}
 use Rattle.substitution.specs.Forms.{drop}
 use Rattle.substitution.specs.Action.{look}
-use Rattle.patterns.specs.Patterns.{ContextOver, ContextPart, Empty, AddVar, AddName, AddFace}
+use Rattle.patterns.specs.Patterns.{ContextPart, Empty, AddVar, AddName, AddFace}
 use Rattle.patterns.specs.Values.{Parts}
 use Rattle.patterns.specs.Normals.{Normal, Normals, NormalSubst, NVar, NMake, NPart, NEntry, NoNormals, MoreNormals, NShift, NPush, NRest, NormalContext, normals}
 use Rattle.patterns.specs.Tests.{NormalJudgement}

@@ -1,6 +1,6 @@
 -- What a pattern means at given parts, in any language.
 use Rattle.std.specs.Prelude.{ℕ, zero, suc, List, [], ◌∷◌}
-use Rattle.theory.specs.Language.{Language, Judged, Tested, Ctx, Ty, TyEq, Tm, TmEq, Sb, IsFormula, IsFace, Holds, Alike, JudgementOf}
+use Rattle.theory.specs.Language.{Language, Tested, Ctx, Ty, TyEq, Tm, TmEq, Sb, IsFormula, IsFace, Holds, Alike, JudgementOf}
 use Rattle.theory.specs.Trees.{Tree, Subst, Var, id}
 use Rattle.theory.specs.Judgements.{Context, Nil, trees, Judgement, SideCondition}
 use Rattle.theory.specs.Things.{Thing, ATree, ASubst, AContext}
