@@ -1,4 +1,4 @@
--- Patterns whose normal terms are equal mean the same at all parts.
+-- Patterns whose normal forms are equal mean the same at all parts.
 use Rattle.std.proofs.Common.{◌≡◌, true, List, [], ◌∷◌, map, refl, sym, ◌∙◌, ap, ap₂}
 use Rattle.theory.specs.Language.{Ctx, Ty, TyEq, Tm, TmEq, Sb}
 use Rattle.theory.specs.Trees.{Make, More, trees_of, apply, push, then, id}

@@ -20,26 +20,37 @@ ghost use Rattle.patterns.specs.Refusals.{is_refused, Differ, one_index_off};
 
 /// Two patterns that a test accepts mean the same at all parts.
 pub fn tests_are_sound()
-    ensures of_trees { (v : Parts trees) (p q : Pattern) → same_tree p q ≡ true → tree_of trees v p ≡ tree_of trees v q }
-    ensures of_substs { (v : Parts trees) (d e : SubstPattern) → same_subst d e ≡ true → subst_of trees v d ≡ subst_of trees v e }
-    ensures of_contexts { (v : Parts trees) (G H : ContextPattern) → same_context G H ≡ true → context_of trees v G ≡ context_of trees v H }
-    ensures of_judgements { (v : Parts trees) (i j : JudgementPattern) → same_judgement i j ≡ true → judgement_of v i ≡ judgement_of v j }
-    ensures of_lists { (v : Parts trees) (is js : List JudgementPattern) → same_judgements is js ≡ true → map (judgement_of v) is ≡ map (judgement_of v) js }
+    ensures of_trees { (v : Parts trees) (p q : Pattern) →
+        same_tree p q ≡ true → tree_of trees v p ≡ tree_of trees v q }
+    ensures of_substs { (v : Parts trees) (d e : SubstPattern) →
+        same_subst d e ≡ true → subst_of trees v d ≡ subst_of trees v e }
+    ensures of_contexts { (v : Parts trees) (G H : ContextPattern) →
+        same_context G H ≡ true → context_of trees v G ≡ context_of trees v H }
+    ensures of_judgements { (v : Parts trees) (i j : JudgementPattern) →
+        same_judgement i j ≡ true → judgement_of v i ≡ judgement_of v j }
+    ensures of_lists { (v : Parts trees) (is js : List JudgementPattern) →
+        same_judgements is js ≡ true → map (judgement_of v) is ≡ map (judgement_of v) js }
 {}
 
 /// A pattern read in normal terms u, filled in at the parts v, is the pattern read at the parts w that the terms are at v.
 pub fn normaliser_is_sound()
-    ensures of_trees { (v : Parts trees) (u : Parts normals) (w : Parts trees) → Fits v u w → (p : Pattern) → filled v (tree_of normals u p) ≡ tree_of trees w p }
-    ensures of_substs { (v : Parts trees) (u : Parts normals) (w : Parts trees) → Fits v u w → (d : SubstPattern) → filled_subst v (subst_of normals u d) ≡ subst_of trees w d }
-    ensures of_contexts { (v : Parts trees) (u : Parts normals) (w : Parts trees) → Fits v u w → (G : ContextPattern) → filled_context v (context_of normals u G) ≡ context_of trees w G }
-    ensures of_judgements { (v : Parts trees) (u : Parts normals) (w : Parts trees) → Fits v u w → (j : JudgementPattern) → filled_judgement v (judged_of normals u j) ≡ judgement_of w j }
+    ensures of_trees { (v : Parts trees) (u : Parts normals) (w : Parts trees) →
+        Fits v u w → (p : Pattern) → filled v (tree_of normals u p) ≡ tree_of trees w p }
+    ensures of_substs { (v : Parts trees) (u : Parts normals) (w : Parts trees) →
+        Fits v u w → (d : SubstPattern) → filled_subst v (subst_of normals u d) ≡ subst_of trees w d }
+    ensures of_contexts { (v : Parts trees) (u : Parts normals) (w : Parts trees) →
+        Fits v u w → (G : ContextPattern) → filled_context v (context_of normals u G) ≡ context_of trees w G }
+    ensures of_judgements { (v : Parts trees) (u : Parts normals) (w : Parts trees) →
+        Fits v u w → (j : JudgementPattern) → filled_judgement v (judged_of normals u j) ≡ judgement_of w j }
     ensures of_unknown { (v : Parts trees) → Fits v unknown v }
 {}
 
 /// Normal terms are substituted, and trimmed, as the trees that they stand for.
 pub fn normal_terms_are_trees()
-    ensures apply { (v : Parts trees) (d : NormalSubst) (t : Normal) → filled v (apply_normal d t) ≡ apply (filled v t) (filled_subst v d) }
-    ensures then { (v : Parts trees) (d s : NormalSubst) → filled_subst v (after d s) ≡ then (filled_subst v s) (filled_subst v d) }
+    ensures apply { (v : Parts trees) (d : NormalSubst) (t : Normal) →
+        filled v (apply_normal d t) ≡ apply (filled v t) (filled_subst v d) }
+    ensures then { (v : Parts trees) (d s : NormalSubst) →
+        filled_subst v (after d s) ≡ then (filled_subst v s) (filled_subst v d) }
     ensures trim { (v : Parts trees) (s : NormalSubst) → ActAlike (filled_subst v (trimmed s)) (filled_subst v s) }
 {}
 

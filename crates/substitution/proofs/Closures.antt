@@ -7,7 +7,7 @@ use Rattle.theory.specs.Judgements.{trees}
 use Rattle.substitution.specs.Forms.{lift_by}
 use Rattle.substitution.specs.Action.{look, ActAlike, count_of}
 use Rattle.substitution.specs.Shifts.{then_all}
-use Rattle.substitution.specs.Delayed.{Delayed, here, closed, deeper, closed_kids, kid_at}
+use Rattle.substitution.specs.Delayed.{Delayed, at_depth, here, closed, deeper, closed_kids, kid_at}
 use Rattle.substitution.proofs.ThenLaws.{apply-id, apply-then, apply-shift_by}
 use Rattle.substitution.proofs.BinderLaws.{apply_under-lift_by, apply_under-apply_under, lift_by-add}
 use Rattle.substitution.proofs.ActionLaws.{apply_under-act_alike}
@@ -93,35 +93,35 @@ closed-var_pushed k i env a le h =
 
 -- a variable under an entry whose substitution is met row by row: pushed, a shift, or one after another
 
-pub closed-var_push_here : (n : ℕ) (d : Subst) (a : Tree) (env : List Delayed) → closed (Var n) (record { depth = n; subst = push d a } ∷ env) ≡ closed a (here (shift_by n) ∷ env)
+pub closed-var_push_here : (n : ℕ) (d : Subst) (a : Tree) (env : List Delayed) → closed (Var n) (at_depth n (push d a) ∷ env) ≡ closed a (here (shift_by n) ∷ env)
 closed-var_push_here n d a env =
-    closed-var_above n (record { depth = n; subst = push d a }) env (omega arith)
+    closed-var_above n (at_depth n (push d a)) env (omega arith)
     ∙ ap (λ j. closed (look (push d a) j) (here (shift_by n) ∷ env)) (let e : n - n ≡ 0 = omega arith in e)
 
-pub closed-var_push_next : (k n : ℕ) (d : Subst) (a : Tree) (env : List Delayed) → n ≤ k → closed (Var (suc k)) (record { depth = n; subst = push d a } ∷ env) ≡ closed (Var k) (record { depth = n; subst = d } ∷ env)
+pub closed-var_push_next : (k n : ℕ) (d : Subst) (a : Tree) (env : List Delayed) → n ≤ k → closed (Var (suc k)) (at_depth n (push d a) ∷ env) ≡ closed (Var k) (at_depth n d ∷ env)
 closed-var_push_next k n d a env le =
-    closed-var_above (suc k) (record { depth = n; subst = push d a }) env (omega arith)
+    closed-var_above (suc k) (at_depth n (push d a)) env (omega arith)
     ∙ ap (λ j. closed (look (push d a) j) (here (shift_by n) ∷ env)) (let e : suc k - n ≡ suc (k - n) = omega arith in e)
-    ∙ sym (closed-var_above k (record { depth = n; subst = d }) env le)
+    ∙ sym (closed-var_above k (at_depth n d) env le)
 
-pub closed-var_shift_by : (k n m : ℕ) (env : List Delayed) → n ≤ k → closed (Var k) (record { depth = n; subst = shift_by m } ∷ env) ≡ closed (Var (k + m)) env
+pub closed-var_shift_by : (k n m : ℕ) (env : List Delayed) → n ≤ k → closed (Var k) (at_depth n (shift_by m) ∷ env) ≡ closed (Var (k + m)) env
 closed-var_shift_by k n m env le =
-    closed-var_past k (record { depth = n; subst = shift_by m }) env (omega arith)
+    closed-var_past k (at_depth n (shift_by m)) env (omega arith)
     ∙ ap (λ j. closed (Var j) env) (let e : k - 0 + m ≡ k + m = omega arith in e)
 
 -- the list itself
 
 pub deeper-zero : (env : List Delayed) → deeper 0 env ≡ env
 deeper-zero [] = refl
-deeper-zero (i ∷ env) = ap₂ (λ n rest. record { depth = n; subst = i.subst } ∷ rest) (add-zero i.depth) (deeper-zero env)
+deeper-zero (i ∷ env) = ap₂ (λ n rest. at_depth n i.subst ∷ rest) (add-zero i.depth) (deeper-zero env)
 
 pub deeper-deeper : (a b : ℕ) (env : List Delayed) → deeper b (deeper a env) ≡ deeper (a + b) env
 deeper-deeper a b [] = refl
-deeper-deeper a b (i ∷ env) = ap₂ (λ n rest. record { depth = n; subst = i.subst } ∷ rest) (add_assoc i.depth a b) (deeper-deeper a b env)
+deeper-deeper a b (i ∷ env) = ap₂ (λ n rest. at_depth n i.subst ∷ rest) (add_assoc i.depth a b) (deeper-deeper a b env)
 
 pub deeper-append : (b : ℕ) (env more : List Delayed) → deeper b (env ++ more) ≡ deeper b env ++ deeper b more
 deeper-append b [] more = refl
-deeper-append b (i ∷ env) more = ap (λ rest. record { depth = i.depth + b; subst = i.subst } ∷ rest) (deeper-append b env more)
+deeper-append b (i ∷ env) more = ap (λ rest. at_depth (i.depth + b) i.subst ∷ rest) (deeper-append b env more)
 
 -- a tree from above n binders, met below them, is the raised one
 pub closed-raise_deeper : (t : Tree) (n : ℕ) (env : List Delayed) → closed (raise t 0 n) (deeper n env) ≡ raise (closed t env) 0 n
@@ -138,19 +138,19 @@ pub closed-shift_by_last : (t : Tree) (n : ℕ) (env : List Delayed) → closed 
 closed-shift_by_last t n env = closed-append t env (here (shift_by n) ∷ []) ∙ apply-shift_by (closed t env) n
 
 -- two entries at one depth are one
-pub closed-then : (t : Tree) (n : ℕ) (d e : Subst) (env : List Delayed) → closed t (record { depth = n; subst = d } ∷ record { depth = n; subst = e } ∷ env) ≡ closed t (record { depth = n; subst = then d e } ∷ env)
+pub closed-then : (t : Tree) (n : ℕ) (d e : Subst) (env : List Delayed) → closed t (at_depth n d ∷ at_depth n e ∷ env) ≡ closed t (at_depth n (then d e) ∷ env)
 closed-then t n d e env = ap (λ u. closed u env) (apply_under-apply_under t n d e)
 
 -- depth is lifting
-pub closed-lift_by : (t : Tree) (n b : ℕ) (d : Subst) (env : List Delayed) → closed t (record { depth = n + b; subst = d } ∷ env) ≡ closed t (record { depth = b; subst = lift_by trees n d } ∷ env)
+pub closed-lift_by : (t : Tree) (n b : ℕ) (d : Subst) (env : List Delayed) → closed t (at_depth (n + b) d ∷ env) ≡ closed t (at_depth b (lift_by trees n d) ∷ env)
 closed-lift_by t n b d env =
     ap (λ u. closed u env)
     (apply_under-lift_by t (n + b) d ∙ ap (apply t) (lift_by-add b n d) ∙ sym (apply_under-lift_by t b (lift_by trees n d)))
 
-pub closed-id : (t : Tree) (n : ℕ) (env : List Delayed) → closed t (record { depth = n; subst = id } ∷ env) ≡ closed t env
+pub closed-id : (t : Tree) (n : ℕ) (env : List Delayed) → closed t (at_depth n id ∷ env) ≡ closed t env
 closed-id t n env = ap (λ u. closed u env) (apply_under-shift_by t n 0 ∙ raise-zero t n)
 
-pub closed-act_alike : (t : Tree) (n : ℕ) (d e : Subst) (env : List Delayed) → ActAlike d e → closed t (record { depth = n; subst = d } ∷ env) ≡ closed t (record { depth = n; subst = e } ∷ env)
+pub closed-act_alike : (t : Tree) (n : ℕ) (d e : Subst) (env : List Delayed) → ActAlike d e → closed t (at_depth n d ∷ env) ≡ closed t (at_depth n e ∷ env)
 closed-act_alike t n d e env h = ap (λ u. closed u env) (apply_under-act_alike t n d e h)
 
 -- one after another, all at once

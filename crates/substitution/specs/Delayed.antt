@@ -9,9 +9,12 @@ pub record Delayed : Type 0 where
   pub depth : ℕ
   pub subst : Subst
 
+abbrev pub at_depth : ℕ → Subst → Delayed
+at_depth n d = record { depth = n; subst = d }
+
 -- under none
 abbrev pub here : Subst → Delayed
-here d = record { depth = 0; subst = d }
+here d = at_depth 0 d
 
 -- the tree under these substitutions, the first applied first
 abbrev pub closed : Tree → List Delayed → Tree
@@ -21,7 +24,7 @@ closed t (i ∷ env) = closed (apply_under t i.depth i.subst) env
 -- the same substitutions under b more binders
 abbrev pub deeper : ℕ → List Delayed → List Delayed
 deeper b [] = []
-deeper b (i ∷ env) = record { depth = i.depth + b; subst = i.subst } ∷ deeper b env
+deeper b (i ∷ env) = at_depth (i.depth + b) i.subst ∷ deeper b env
 
 -- the kids of an operator, from the kid `at` on, each under its binders
 abbrev pub closed_kids : Trees → Op → ℕ → List Delayed → Trees
