@@ -1,0 +1,13 @@
+use Rattle.std.proofs.Common.{refl}
+use Rattle.patterns.proofs.ExampleProofs.{every_example-holds}
+use Rattle.patterns.proofs.examples.Goals as goal
+
+pub returns : goal.returns
+returns c = record {
+  hold = every_example-holds;
+  pi = refl;
+  sigma = refl;
+  path = refl;
+  filling = refl;
+  laws = refl;
+}

@@ -1,0 +1,8 @@
+pub mod Patterns
+pub mod Values
+pub mod Normals
+pub mod Fillings
+pub mod Tests
+pub mod Conclusions
+pub mod Examples
+pub mod Refusals

@@ -1,0 +1,7 @@
+pub mod Maps
+pub mod ThenLaws
+pub mod BinderLaws
+pub mod ActionLaws
+pub mod RaiseLaws
+pub mod ShiftBounds
+pub mod Closures

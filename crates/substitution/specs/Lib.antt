@@ -1,0 +1,4 @@
+pub mod Forms
+pub mod Action
+pub mod Shifts
+pub mod Delayed
