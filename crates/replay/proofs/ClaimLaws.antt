@@ -2,7 +2,7 @@
 use Rattle.std.proofs.Common.{◌≡◌, ℕ, List, [], ◌∷◌, refl, sym, ◌∙◌, ap, Option, Some, None, IsSome, IsTrue, Bool, false, ◌↔◌}
 use Rattle.theory.specs.Language.{Ctx, Ty, TyEq, Tm, TmEq, Sb}
 use Rattle.theory.specs.Judgements.{Judgement}
-use Rattle.theory.specs.Things.{Thing, ATree, ASubst, AContext, Meanings, one, meanings}
+use Rattle.theory.specs.Things.{Thing, ATree, ASubst, AContext, Meanings, meanings}
 use Rattle.theory.specs.declared.claim.Form.{Form}
 use Rattle.theory.specs.declared.claim.Form.TheVariants as form
 use Rattle.theory.specs.declared.claim.Claim.{Claim}

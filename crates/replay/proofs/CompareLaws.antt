@@ -1,15 +1,14 @@
 -- What a comparison has left to do, step by step.
-use Rattle.std.proofs.Common.{◌≡◌, ◌≢◌, ℕ, zero, suc, ◌+◌, ◌<◌, ◌≤◌, List, [], ◌∷◌, ◌++◌, length, refl, sym, ◌∙◌, ap, arith, Option, Some, None, IsSome, map}
-use Rattle.std.specs.Prelude.{slice_get, take}
-use Rattle.std.proofs.lemmas.Option.{slice_get_within}
+use Rattle.std.proofs.Common.{◌≡◌, ℕ, zero, suc, ◌+◌, ◌<◌, List, [], ◌∷◌, ◌++◌, length, refl, sym, ◌∙◌, ap, arith, Option, Some, None, IsSome, map}
+use Rattle.std.specs.Prelude.{slice_get}
 use Rattle.theory.specs.declared.op.Op.{Op}
 use Rattle.theory.specs.Judgements.{Nil}
-use Rattle.theory.specs.Trees.{Tree, Make, trees_of}
+use Rattle.theory.specs.Trees.{Make, trees_of}
 use Rattle.theory.specs.Things.{Thing, ATree, AContext, Meanings, one, made, meanings, kind_of}
 use Rattle.theory.specs.declared.rule.PartKind.TheVariants as part
 use Rattle.replay.specs.Pairs.{differing, Live, Agrees}
 use Rattle.replay.specs.declared.compare.Pair.{Pair}
-use Rattle.replay.proofs.PairLaws.{AllAgree, AllLive, agree-append, agree-split, live-append, live-split, Differ, differ, size_of, sizes, weight, weight-append, size-some, MadeOf, made_of, trees_of-same, weight-differing}
+use Rattle.replay.proofs.PairLaws.{AllAgree, AllLive, agree-append, agree-split, live-append, live-split, differ, size_of, sizes, weight, weight-append, size-some, MadeOf, made_of, trees_of-same, weight-differing}
 
 -- the pairs that are left agree exactly where the goal holds
 pub record Rests (f : Meanings) (goal : Type 0) (todo : List Pair) : Type 0 where
@@ -89,11 +88,11 @@ after_make f goal todo rest next p op ks ls e pushed r n b =
     let d = differ f ks ls _ _ n b.left.mean b.right.mean in
     rw pushed record {
       back = λ a.
-        let s = agree-split f rest (differing ks ls) a in
-        q.back (agree-append f rest (p ∷ []) s.0 (b.left_is ∙ ap (one (made op)) (d.back s.1) ∙ sym b.right_is, tt));
+          let s = agree-split f rest (differing ks ls) a in
+          q.back (agree-append f rest (p ∷ []) s.0 (b.left_is ∙ ap (one (made op)) (d.back s.1) ∙ sym b.right_is, tt));
       forth = λ g.
-        let s = agree-split f rest (p ∷ []) (q.forth g) in
-        agree-append f rest (differing ks ls) s.0 (d.forth (parts_agree f p op op ks ls b s.1.0).1);
+          let s = agree-split f rest (p ∷ []) (q.forth g) in
+          agree-append f rest (differing ks ls) s.0 (d.forth (parts_agree f p op op ks ls b s.1.0).1);
       live = live-append f rest (differing ks ls) (live-split f rest (p ∷ []) q.live).0 d.live;
     }
 

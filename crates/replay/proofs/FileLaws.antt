@@ -1,13 +1,12 @@
 -- Files whose first rows are right.
-use Rattle.std.proofs.Common.{◌≡◌, ℕ, zero, suc, ◌+◌, ◌<◌, ◌≤◌, List, [], ◌∷◌, ◌++◌, length, take, refl, sym, ◌∙◌, ap, subst, arith, append_assoc, length-append, max, Option, Some, None}
-use Rattle.std.specs.Prelude.{slice_get}
+use Rattle.std.proofs.Common.{◌≡◌, ℕ, zero, suc, ◌+◌, ◌<◌, ◌≤◌, List, [], ◌∷◌, ◌++◌, length, take, refl, sym, ◌∙◌, ap, subst, arith, append_assoc, length-append, Some}
 use Rattle.std.specs.Option.{option_to_list}
 use Rattle.std.specs.Io.BufRead.{take_through, drop_through}
 use Rattle.std.proofs.lemmas.List.{take-append-le, append-nil}
 use Rattle.std.proofs.Math.Seq.{take-append-add, take-length}
 use Rattle.theory.specs.declared.rule.RuleName.{RuleName}
 use Rattle.theory.specs.Judgements.{Judgement}
-use Rattle.theory.specs.Things.{Thing, one}
+use Rattle.theory.specs.Things.{one}
 use Rattle.rules.specs.Rules.{rule_at}
 use Rattle.deriv_file.specs.declared.row.Row.{Row}
 use Rattle.deriv_file.specs.declared.row.Row.TheVariants.{Header, Make, CtxNil, Node, Root}
@@ -23,8 +22,8 @@ use Rattle.replay.specs.declared.judging.Verdict.{Verdict}
 use Rattle.replay.specs.declared.judging.Verdict.TheVariants.{Yes, No}
 use Rattle.replay.specs.Verdicts.{VerdictIs}
 use Rattle.replay.specs.Meant.{count_roots}
-use Rattle.derivation.specs.Meanings.{Meaning, Nothing, conclusion_at, conclusion_of}
-use Rattle.derivation.specs.Right.{RightNode, RightRow, RightRows, Begins, Right, AllRight, FirstBad, Derives, root_of, roots_of}
+use Rattle.derivation.specs.Meanings.{Meaning, conclusion_at}
+use Rattle.derivation.specs.Right.{RightNode, RightRow, RightRows, Begins, AllRight, FirstBad, Derives, root_of, roots_of}
 
 -- a row means one thing at most
 

@@ -1,7 +1,6 @@
 -- What the entries of a file mean, place by place, and when the store grows.
-use Rattle.std.proofs.Common.{◌≡◌, ℕ, zero, suc, ◌+◌, ◌<◌, ◌≤◌, List, [], ◌∷◌, ◌++◌, length, take, get_or, refl, sym, ◌∙◌, ap, arith, Option, Some, None, IsSome, Bool, true, false, ◌&&◌, map}
+use Rattle.std.proofs.Common.{◌≡◌, ℕ, zero, suc, ◌<◌, List, [], ◌∷◌, length, take, get_or, refl, sym, ◌∙◌, ap, arith, Option, Some, None, IsSome, Bool, true, false, ◌&&◌}
 use Rattle.std.specs.Prelude.{slice_get, is_some, unwrap_or}
-use Rattle.std.specs.List.{list_all}
 use Rattle.std.proofs.lemmas.List.Sums.{AllPass-from_list_all}
 use Rattle.std.proofs.lemmas.Option.{slice_get_within}
 use Rattle.theory.specs.declared.claim.Claim.{Claim}

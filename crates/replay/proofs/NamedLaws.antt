@@ -5,13 +5,13 @@ use Rattle.std.proofs.lemmas.List.{take_all, take_more}
 use Rattle.std.proofs.lemmas.Option.{slice_get-get_or}
 use Rattle.theory.specs.declared.rule.PartKind.{PartKind}
 use Rattle.theory.specs.Things.{Thing, one, meanings, kind_of}
-use Rattle.theory.proofs.Meanings.{meanings-cons, meanings-length, meanings-place, meanings-push}
+use Rattle.theory.proofs.Meanings.{meanings-length, meanings-place, meanings-push}
 use Rattle.derivation.specs.Meanings.{things, thing_at}
 use Rattle.replay.specs.declared.entry.Entry.{Entry}
 use Rattle.replay.specs.declared.entry.Entry.TheVariants as entry
 use Rattle.replay.specs.Filed.{filed}
 use Rattle.replay.specs.Named.{Names, NamesNone}
-use Rattle.replay.proofs.FiledLaws.{Stands, at_thing}
+use Rattle.replay.proofs.FiledLaws.{at_thing}
 
 pub record NamesSo (xs : List Thing) (es : List Entry) (numbers : List ℕ) (kinds : List PartKind) (n : ℕ) (rows : List ℕ) : Type 0 where
   pub Xs : List Thing

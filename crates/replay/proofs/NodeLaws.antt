@@ -1,22 +1,19 @@
 -- What is known of the premises of a node, place by place.
-use Rattle.std.proofs.Common.{◌≡◌, ℕ, zero, suc, ◌+◌, ◌<◌, ◌≤◌, List, [], ◌∷◌, ◌++◌, length, take, get_or, refl, sym, ◌∙◌, ap, ap₂, arith, Option, Some, None, IsSome, IsTrue, Bool, true, false, ◌↔◌, map}
+use Rattle.std.proofs.Common.{◌≡◌, ℕ, zero, suc, ◌+◌, ◌<◌, ◌≤◌, List, [], ◌∷◌, length, take, get_or, refl, sym, ◌∙◌, ap, arith, Option, Some, None, IsSome, IsTrue, Bool, false, ◌↔◌}
 use Rattle.std.specs.Prelude.{slice_get}
-use Rattle.std.proofs.lemmas.List.{take_all, take_more}
-use Rattle.std.proofs.lemmas.Option.{slice_get-get_or}
 use Rattle.std.specs.List.{All}
-use Rattle.theory.specs.declared.rule.PartKind.{PartKind}
 use Rattle.theory.specs.declared.rule.RuleName.{RuleName}
 use Rattle.theory.specs.Judgements.{Judgement, SideCondition, TreeRule}
 use Rattle.theory.specs.RuleNames.{kinds_of, premises_of}
-use Rattle.theory.specs.Things.{Thing, both, one, listed, meanings, kind_of}
+use Rattle.theory.specs.Things.{Thing, one, meanings}
 use Rattle.rules.specs.Rules.{rule_at}
 use Rattle.rules.specs.Sides.{SideHolds}
 use Rattle.rules.specs.Claims.{rule_over, premise_at, conclusion_of as conclusion_of_rule}
 use Rattle.rules.proofs.TableLaws.{wants-count, no_sides, some_rule, rule_kinds}
-use Rattle.derivation.specs.Meanings.{Meaning, things, thing_at, conclusions}
+use Rattle.derivation.specs.Meanings.{Meaning, things, conclusions}
 use Rattle.derivation.specs.Right.{RightNode}
 use Rattle.replay.specs.declared.entry.Entry.{Entry}
-use Rattle.replay.specs.Filed.{filed, AllFiled, wants_of}
+use Rattle.replay.specs.Filed.{filed, wants_of}
 use Rattle.replay.specs.Named.{Names, NamesNone}
 use Rattle.theory.proofs.Meanings.{meanings-more, meanings-all, meanings-place}
 

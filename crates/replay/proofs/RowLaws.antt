@@ -1,5 +1,5 @@
 -- When a row is right behind others, by its kind.
-use Rattle.std.proofs.Common.{◌≡◌, ℕ, zero, suc, ◌+◌, ◌<◌, ◌≤◌, List, [], ◌∷◌, ◌++◌, length, take, refl, sym, ◌∙◌, ap, arith, Option, Some, None, IsSome, map, Bool, true, false}
+use Rattle.std.proofs.Common.{◌≡◌, ℕ, zero, suc, ◌<◌, ◌≤◌, List, [], ◌∷◌, ◌++◌, length, take, refl, sym, ◌∙◌, ap, arith, Option, Some, None, IsSome, map, Bool, true, false}
 use Rattle.std.specs.Prelude.{slice_get, replicate, is_some, unwrap_or, ◌==◌, if◌then◌else◌}
 use Rattle.theory.specs.declared.op.Op.{Op}
 use Rattle.theory.specs.declared.rule.PartKind.{PartKind}
@@ -10,8 +10,7 @@ use Rattle.theory.specs.Trees.{Tree, trees_of, Make as MakeTree}
 use Rattle.theory.specs.Judgements.{Nil, Judgement}
 use Rattle.theory.specs.Things.{Thing, ATree, ASubst, AContext, one, meanings, made, only_trees, kind_of}
 use Rattle.theory.proofs.Meanings.{meanings-length}
-use Rattle.deriv_file.specs.declared.row.Row.{Row}
-use Rattle.deriv_file.specs.declared.row.Row.TheVariants.{Header, Make, CtxNil, Node, Root}
+use Rattle.deriv_file.specs.declared.row.Row.TheVariants.{Make, CtxNil, Node, Root}
 use Rattle.derivation.specs.Meanings.{Meaning, Means, Concludes, Nothing, thing_at, conclusion_at, things}
 use Rattle.derivation.specs.Right.{RightNode, RightRow}
 use Rattle.replay.specs.declared.entry.Entry.{Entry}
@@ -19,7 +18,7 @@ use Rattle.replay.specs.declared.rows.TheConstants.{TERMS}
 use Rattle.std.specs.Prelude.{Result, Ok, Err}
 use Rattle.std.specs.Result.{OnErr}
 use Rattle.std.specs.List.{list_all}
-use Rattle.replay.specs.Filed.{filed, AllFiled, EntryIs, entry_meaning}
+use Rattle.replay.specs.Filed.{filed, AllFiled, entry_meaning}
 use Rattle.replay.proofs.FiledLaws.{both_true}
 use Rattle.replay.specs.Named.{Names, NamesNone}
 

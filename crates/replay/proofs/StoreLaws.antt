@@ -1,8 +1,7 @@
 -- What the rows of a store mean, when it grows and when it is cut.
-use Rattle.std.proofs.Common.{◌≡◌, ℕ, zero, suc, ◌+◌, ◌<◌, ◌≤◌, List, [], ◌∷◌, ◌++◌, length, take, get_or, refl, sym, ◌∙◌, ap, arith, Option, Some, None, IsSome, Bool, true, false, cond, ◌&&◌, append_assoc, length-append}
+use Rattle.std.proofs.Common.{◌≡◌, ℕ, zero, suc, ◌+◌, ◌<◌, List, [], ◌∷◌, ◌++◌, length, take, get_or, refl, sym, ◌∙◌, ap, arith, Option, Some, None, IsSome, Bool, true, false, cond, ◌&&◌, append_assoc, length-append}
 use Rattle.std.specs.Prelude.{slice_get, is_some, unwrap_or}
 use Rattle.std.proofs.lemmas.List.{take_all, append-nil}
-use Rattle.std.proofs.lemmas.Option.{slice_get_within, slice_get-get_or}
 use Rattle.theory.specs.Operators.{kids_of}
 use Rattle.theory.specs.Judgements.{Nil}
 use Rattle.theory.specs.Things.{Thing, AContext, Kept, one, made, meanings}

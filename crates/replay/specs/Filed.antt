@@ -1,5 +1,5 @@
 -- What the rows of a file mean that were read so far, over a store.
-use Rattle.std.specs.Prelude.{◌≡◌, ℕ, List, Bool, true, Option, Some, None, is_some, unwrap_or, slice_get, map}
+use Rattle.std.specs.Prelude.{◌≡◌, List, true, Option, Some, None, is_some, unwrap_or, slice_get, map}
 use Rattle.std.specs.List.{list_all}
 use Rattle.theory.specs.Judgements.{Judgement, TreeRule}
 use Rattle.theory.specs.Things.{Thing, one}

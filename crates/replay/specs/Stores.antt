@@ -1,5 +1,5 @@
 -- What the rows of a store mean.
-use Rattle.std.specs.Prelude.{◌≡◌, ℕ, List, [], ◌∷◌, ◌++◌, Bool, true, ◌&&◌, Option, Some, is_some, unwrap_or, slice_get, take}
+use Rattle.std.specs.Prelude.{◌≡◌, List, [], ◌∷◌, ◌++◌, Bool, true, ◌&&◌, Option, Some, is_some, unwrap_or, slice_get, take}
 use Rattle.theory.specs.Operators.{kids_of}
 use Rattle.theory.specs.Judgements.{Nil}
 use Rattle.theory.specs.Things.{Thing, AContext, one, made, meanings}

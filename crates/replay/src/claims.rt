@@ -23,5 +23,10 @@ pub fn same_claim(
     if left.form() != right.form() {
         return Ok(false);
     }
-    Ok(same_rows(alloc, store, left.rows().as_slice(), right.rows().as_slice())?)
+    Ok(same_rows(
+        alloc,
+        store,
+        left.rows().as_slice(),
+        right.rows().as_slice(),
+    )?)
 }

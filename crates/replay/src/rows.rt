@@ -80,7 +80,14 @@ fn entry_of(
         Row::Make(op, kids) => Ok(tree_entry(alloc, store, entries, *op, kids.as_slice())?),
         Row::CtxNil => Ok(Some(Entry::Thing(store.ctx_nil()?))),
         Row::Node(rule, parts, premises) => {
-            match node_claim(alloc, store, entries, *rule, parts.as_slice(), premises.as_slice())? {
+            match node_claim(
+                alloc,
+                store,
+                entries,
+                *rule,
+                parts.as_slice(),
+                premises.as_slice(),
+            )? {
                 Some(claim) => Ok(Some(Entry::Node(claim))),
                 None => Ok(None),
             }

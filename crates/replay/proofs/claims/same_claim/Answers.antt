@@ -1,9 +1,8 @@
-use Rattle.std.proofs.Common.{◌≡◌, ◌∙◌, sym, ap, rules, true, false}
+use Rattle.std.proofs.Common.{◌≡◌, ◌∙◌, sym, rules, true, false}
 use Rattle.std.specs.Prelude.{slice_get}
 use denote.Enum.Bare.{sameb, same_true, same_false}
 use Rattle.theory.specs.contracts.claim.Form.{the_type}
-use Rattle.theory.specs.Things.{meanings}
-use Rattle.theory.specs.Claims.{form_of, rows_of}
+use Rattle.theory.specs.Claims.{rows_of}
 use Rattle.replay.specs.Shown.{shown}
 use Rattle.replay.proofs.ClaimLaws.{same_claims, other_claims}
 use Rattle.replay.proofs.Tests.{differs, agrees}

@@ -2,7 +2,6 @@ use Rattle.std.proofs.Common.{◌≡◌, ◌∙◌, sym, ap, rules}
 use Rattle.std.specs.Prelude.{slice_get}
 use denote.Enum.Bare.{same_true, same_false}
 use Rattle.theory.specs.contracts.op.Op.{the_type}
-use Rattle.theory.specs.Operators.{kids_of}
 use Rattle.theory.specs.Things.{one, made, meanings}
 use Rattle.replay.specs.Shown.{shown}
 use Rattle.replay.specs.Stores.{meant}

@@ -1,4 +1,4 @@
-use Rattle.std.proofs.Common.{◌∙◌, ap, sym, ◌++◌, take}
+use Rattle.std.proofs.Common.{◌∙◌, ap, take}
 use Rattle.replay.specs.Pairs.{differing}
 use Rattle.replay.proofs.PairLaws.{differing-more, pushed_pair, skipped_pair}
 use Rattle.replay.proofs.compare.push_differing.Goals as goal
@@ -12,6 +12,6 @@ loop-at-preserved c =
     let more = differing (take at left) (take at right) in
     rw (differing-more left right at c.loop-at-test.true c.requires)
     (elim c.if-pair.branch [
-      then-pair+in_ok-push w ↦ pushed_pair c.args.todo.now.items c.loop-at.todo.items c.if-pair.todo.items more _ _ w.if-pair.true c.loop-at.invariant (ap (λ v. v.items) w.todo-is ∙ w.in_ok-push.ensures.items)
-    | else-pair w ↦ skipped_pair c.args.todo.now.items c.if-pair.todo.items more _ _ w.if-pair.false (ap (λ v. v.items) w.todo-is ∙ c.loop-at.invariant)
+      | then-pair+in_ok-push w ↦ pushed_pair c.args.todo.now.items c.loop-at.todo.items c.if-pair.todo.items more _ _ w.if-pair.true c.loop-at.invariant (ap (λ v. v.items) w.todo-is ∙ w.in_ok-push.ensures.items)
+      | else-pair w ↦ skipped_pair c.args.todo.now.items c.if-pair.todo.items more _ _ w.if-pair.false (ap (λ v. v.items) w.todo-is ∙ c.loop-at.invariant)
     ])

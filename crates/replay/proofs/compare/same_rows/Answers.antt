@@ -1,6 +1,4 @@
-use Rattle.std.proofs.Common.{◌≡◌, ◌∙◌, [], ◌++◌, sym, refl, ap, arith, rules}
 use Rattle.std.specs.Prelude.{slice_get}
-use Rattle.theory.specs.Things.{meanings}
 use Rattle.replay.specs.Shown.{shown}
 use Rattle.replay.proofs.CompareLaws.{begin_pushed, last_live, must_agree, after_same, smaller_same, both_make, after_make, smaller_make}
 use Rattle.replay.proofs.compare.same_rows.Goals as goal

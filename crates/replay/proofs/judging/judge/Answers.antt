@@ -1,4 +1,4 @@
-use Rattle.std.proofs.Common.{◌+◌, ◌≡◌, ◌<◌, ◌≤◌, ℕ, length, refl, sym, ◌∙◌, ap, arith, rules, Fits, w64}
+use Rattle.std.proofs.Common.{◌+◌, arith, rules}
 use Rattle.replay.specs.Meant.{meant_by}
 use Rattle.replay.proofs.FileLaws.{at_start, count_is, next_stands, next_right, next_shorter, next_wrong, next_misspelt, end_empty, end_some}
 use Rattle.replay.proofs.judging.judge.Goals as goal
@@ -43,6 +43,6 @@ pub returns : goal.returns
 returns c =
     let is = rw c.in-End.is at c.in_ok-row.ensures.next in
     elim c.match-len.branch [
-      in-0 w ↦ end_empty c.args.bytes.now c.loop-rows.reader c.next.new.self (meant_by c.loop-rows.rows) c.loop-rows.roots c.len.result c.match-len.result c.loop-rows.invariant is c.len.ensures w.in-0.is w.result-is
+      | in-0 w ↦ end_empty c.args.bytes.now c.loop-rows.reader c.next.new.self (meant_by c.loop-rows.rows) c.loop-rows.roots c.len.result c.match-len.result c.loop-rows.invariant is c.len.ensures w.in-0.is w.result-is
       | in_default w ↦ end_some c.args.bytes.now c.loop-rows.reader c.next.new.self (meant_by c.loop-rows.rows) c.loop-rows.roots c.len.result c.match-len.result c.loop-rows.invariant is c.len.ensures (search rules) w.result-is
     ]

@@ -1,4 +1,4 @@
-use Rattle.std.proofs.Common.{◌≡◌, ◌<◌, ◌≤◌, ◌∙◌, ap, length, arith, rules, Some}
+use Rattle.std.proofs.Common.{◌<◌, ◌≤◌, ◌∙◌, ap, length, arith, rules, Some}
 use Rattle.std.specs.Prelude.{slice_get}
 use denote.Enum.Bare.{same_true, same_false}
 use Rattle.theory.specs.contracts.rule.PartKind.{the_type}

@@ -1,6 +1,5 @@
-use Rattle.std.proofs.Common.{◌≡◌, ◌∙◌, sym, ap, Option, Some, IsSome}
+use Rattle.std.proofs.Common.{◌≡◌, ◌∙◌}
 use Rattle.std.specs.Prelude.{slice_get}
-use Rattle.theory.specs.Judgements.{Judgement}
 use Rattle.theory.specs.Things.{meanings}
 use Rattle.rules.specs.Claims.{rule_over, claimed, conclusion_of}
 use Rattle.replay.specs.Filed.{filed}
@@ -29,5 +28,5 @@ returns-clause-some c =
     let hold = rw c.deref.ensures.value at (c.in_ok-premises_hold.ensures.hold.0 c.if-not-branch.false) in
     let right = right_node (filed xs c.args.entries.now) c.args.rule c.args.parts.now c.args.premises.now P parts.0 parts.1 hold in
     let claim : claimed (slice_get (shown c.concluded.new.maker)) c.in_ok-concluded.field-0 ≡ conclusion_of (rule_over c.args.rule P) =
-        rw (c.in_ok-premises_hold.ensures.same, c.deref-2.ensures.value) at c.in_ok-concluded.ensures.claim in
+    rw (c.in_ok-premises_hold.ensures.same, c.deref-2.ensures.value) at c.in_ok-concluded.ensures.claim in
     (right.0, right.1, claim ∙ right.2)

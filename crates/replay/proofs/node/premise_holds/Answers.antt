@@ -1,8 +1,7 @@
-use Rattle.std.proofs.Common.{◌≡◌, ◌∙◌, sym, ap, length, take}
+use Rattle.std.proofs.Common.{◌≡◌, ◌∙◌, sym, ap, take}
 use Rattle.std.specs.Prelude.{slice_get}
-use Rattle.theory.specs.Things.{Kept, meanings}
+use Rattle.theory.specs.Things.{meanings}
 use Rattle.theory.proofs.Meanings.{kept-same}
-use Rattle.rules.specs.Claims.{claimed}
 use Rattle.replay.specs.Shown.{shown}
 use Rattle.replay.proofs.FiledLaws.{at_thing, at_node, at_nothing, live_node, claimed-later, take-kept}
 use Rattle.replay.proofs.NodeLaws.{premise_some, no_node, iff_along}

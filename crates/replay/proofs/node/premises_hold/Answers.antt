@@ -1,7 +1,6 @@
-use Rattle.std.proofs.Common.{◌≡◌, ◌<◌, ◌≤◌, ◌∙◌, sym, ap, length, get_or, arith, refl, true}
+use Rattle.std.proofs.Common.{◌<◌, ◌≤◌, ◌∙◌, length, arith, refl}
 use Rattle.std.specs.Prelude.{slice_get}
 use Rattle.theory.specs.Things.{meanings}
-use Rattle.rules.specs.Claims.{rule_over, premise_at}
 use Rattle.derivation.specs.Meanings.{conclusion_at}
 use Rattle.replay.specs.Filed.{filed}
 use Rattle.replay.specs.Shown.{shown}

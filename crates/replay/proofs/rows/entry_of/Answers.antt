@@ -1,12 +1,8 @@
-use Rattle.std.proofs.Common.{rules, ◌≡◌, ◌<◌, ℕ, length, slice_get, IfOk, ◌+◌, ◌-◌, ◌*◌, ◌≤◌, ◌/◌, ◌%◌, Bool, true, false, nat_eq, nat_lt, List, [], ◌∷◌, ◌++◌, slice_index_or, slice_set, bit_and, bit_or, Fits, w8, w32, w64, Bor, MutBor, refl, sym, ◌∙◌, ap, arith, Some}
-use Rattle.std.specs.List.{All}
-use Rattle.theory.specs.Operators.{kids_of}
+use Rattle.std.proofs.Common.{ap, Some}
 use Rattle.theory.specs.Judgements.{Nil}
-use Rattle.theory.specs.Things.{Kept, AContext, one}
-use Rattle.deriv_file.specs.Spelling.{MayStand}
-use Rattle.deriv_file.specs.declared.row.Row.TheVariants as row
+use Rattle.theory.specs.Things.{AContext, one}
 use Rattle.derivation.specs.Meanings.{Means, Concludes}
-use Rattle.replay.specs.Filed.{filed, AllFiled, EntryIs}
+use Rattle.replay.specs.Filed.{filed}
 use Rattle.replay.specs.Shown.{shown}
 use Rattle.replay.proofs.RowLaws.{nil_right, node_right, node_wrong, some_filed, not_empty}
 use Rattle.replay.proofs.rows.entry_of.Goals as goal

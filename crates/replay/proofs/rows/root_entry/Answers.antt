@@ -1,4 +1,3 @@
-use Rattle.std.proofs.Common.{◌≡◌}
 use Rattle.replay.specs.Filed.{filed}
 use Rattle.replay.specs.Shown.{shown}
 use Rattle.replay.proofs.FiledLaws.{at_thing, at_node, at_nothing, live_node}

@@ -1,7 +1,4 @@
-use Rattle.std.proofs.Common.{◌≡◌, ◌≤◌, ◌∙◌, ap, length, take, arith}
-use Rattle.std.specs.Prelude.{slice_get}
-use Rattle.theory.specs.Operators.{kids_of}
-use Rattle.theory.specs.Things.{one, made, meanings}
+use Rattle.std.proofs.Common.{◌≤◌, ◌∙◌, ap, length, take, arith}
 use Rattle.replay.specs.declared.rows.TheConstants.{TERMS}
 use Rattle.replay.specs.Filed.{filed}
 use Rattle.replay.specs.Named.{Names, NamesNone}

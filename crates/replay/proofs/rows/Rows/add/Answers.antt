@@ -1,8 +1,7 @@
-use Rattle.std.proofs.Common.{rules, ◌≡◌, ◌<◌, ℕ, length, slice_get, IfOk, ◌++◌, ◌∷◌, [], true, false, ◌+◌, ◌-◌, ◌*◌, ◌≤◌, ◌/◌, ◌%◌, Bool, nat_eq, nat_lt, List, slice_index_or, slice_set, bit_and, bit_or, Fits, w8, w32, w64, Bor, MutBor, Some, None, refl, sym, ◌∙◌, ap}
+use Rattle.std.proofs.Common.{◌++◌, ◌∷◌, [], Some, None, ◌∙◌, ap}
 use Rattle.std.specs.Result.{is_ok}
-use Rattle.replay.specs.Filed.{filed, AllFiled, EntryIs}
+use Rattle.replay.specs.Filed.{filed, EntryIs}
 use Rattle.replay.specs.Shown.{shown}
-use Rattle.replay.specs.Meant.{meant_by}
 use Rattle.replay.proofs.FiledLaws.{all-later, filed-later}
 use Rattle.replay.proofs.RowLaws.{filed_push, all_pushed, none_pushed, on_err}
 use Rattle.replay.proofs.rows.Rows.add.Goals as goal
@@ -50,5 +49,5 @@ returns-in_err-push-clause-err c =
     let ys = shown c.entry_of.new.store in
     let es = c.args.self.now.entries.items in
     on_err c.from_residual-in_err-push.result (
-      ap (filed ys) (none_pushed (is_ok c.push.result) es c.push.new.self.items c.in-Some.entry (ap is_ok c.in_err-push.was) c.push.ensures.items)
-      ∙ filed-later xs ys c.entry_of.ensures.kept es c.args.self.now.filed)
+    ap (filed ys) (none_pushed (is_ok c.push.result) es c.push.new.self.items c.in-Some.entry (ap is_ok c.in_err-push.was) c.push.ensures.items)
+    ∙ filed-later xs ys c.entry_of.ensures.kept es c.args.self.now.filed)

@@ -1,5 +1,4 @@
 use Rattle.std.proofs.Common.{◌<◌, length, sym, ◌∙◌, arith, ap}
-use Rattle.std.specs.Prelude.{slice_get}
 use Rattle.replay.specs.Stores.{things, meant}
 use Rattle.replay.proofs.StoreLaws.{length-things, row-means}
 use Rattle.replay.proofs.store.Store.row.Goals as goal

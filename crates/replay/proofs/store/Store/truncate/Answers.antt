@@ -1,4 +1,4 @@
-use Rattle.std.proofs.Common.{sym, ◌∙◌, ap, []}
+use Rattle.std.proofs.Common.{◌∙◌, ap, []}
 use Rattle.replay.specs.Stores.{things}
 use Rattle.replay.proofs.StoreLaws.{things-take, mean-take}
 use Rattle.replay.proofs.store.Store.truncate.Goals as goal
