@@ -9,7 +9,7 @@ use Rattle.theory.specs.declared.claim.Claim.{Claim}
 use Rattle.theory.specs.Claims.{form_of as form_of_claim, rows_of}
 use Rattle.rules.specs.Schemas.{judged, said}
 use Rattle.rules.specs.Claims.{claimed}
-use Rattle.replay.proofs.Tests.{never}
+use Rattle.replay.proofs.Equality.{never}
 
 -- the form and the things of a judgement
 abbrev pub form_of : Judgement → Form

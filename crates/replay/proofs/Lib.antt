@@ -1,4 +1,4 @@
-pub mod Tests
+pub mod Equality
 pub mod StoreLaws
 pub mod PairLaws
 pub mod CompareLaws

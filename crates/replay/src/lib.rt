@@ -14,3 +14,6 @@ mod store;
 mod stored;
 
 pub use judging::{Verdict, judge};
+
+#[cfg(test)]
+mod tests;

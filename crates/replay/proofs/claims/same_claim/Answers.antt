@@ -5,7 +5,7 @@ use Rattle.theory.specs.contracts.claim.Form.{the_type}
 use Rattle.theory.specs.Claims.{rows_of}
 use Rattle.replay.specs.Shown.{shown}
 use Rattle.replay.proofs.ClaimLaws.{same_claims, other_claims}
-use Rattle.replay.proofs.Tests.{differs, agrees}
+use Rattle.replay.proofs.Equality.{differs, agrees}
 use Rattle.replay.proofs.claims.same_claim.Goals as goal
 
 pub returns-then-ne : goal.returns-then-ne

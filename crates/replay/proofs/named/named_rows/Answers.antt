@@ -5,7 +5,7 @@ use Rattle.theory.specs.contracts.rule.PartKind.{the_type}
 use Rattle.replay.specs.Shown.{shown}
 use Rattle.replay.proofs.FiledLaws.{at_thing, at_node, at_nothing, live_thing, row_within}
 use Rattle.replay.proofs.NamedLaws.{one_name, all_names, wrong_name, no_thing, other_kind}
-use Rattle.replay.proofs.Tests.{differs, agrees}
+use Rattle.replay.proofs.Equality.{differs, agrees}
 use Rattle.replay.proofs.named.named_rows.Goals as goal
 
 pub kind-requires : goal.kind-requires

@@ -5,7 +5,7 @@ use Rattle.derivation.specs.Meanings.{conclusion_at}
 use Rattle.replay.specs.Filed.{filed}
 use Rattle.replay.specs.Shown.{shown}
 use Rattle.replay.proofs.NodeLaws.{one_holds, all_hold, must_hold}
-use Rattle.replay.proofs.Tests.{refuted}
+use Rattle.replay.proofs.Equality.{refuted}
 use Rattle.replay.proofs.node.premises_hold.Goals as goal
 
 pub returns-then-not-branch-clause-hold : goal.returns-then-not-branch-clause-hold
