@@ -1,5 +1,5 @@
 // The files of the system.
-ghost use Rattle.std.specs.Prelude.{◌≡◌, None, OnErr};
+ghost use Rattle.std.specs.Prelude.{◌≡◌, ◌≢◌, None, OnErr};
 ghost use Rattle.std.specs.Io.{StartsWith};
 ghost use Rattle.edge.specs.Counts.{no_counts, counted_fetch, counted_store};
 ghost use Rattle.edge.specs.Files.{FetchGives};
@@ -97,6 +97,7 @@ impl<R: rt::Files + Drop> Files for DiskFiles<R> {
     }
 
     fn store(&mut self, path: &str, bytes: &[u8]) -> Stored
+        ensures takes_no_memory { result ≢ Stored.Memory }
         ensures counted { self.new ≡ counted_store result self.old }
     {
         match write_file(&self.system, path, bytes) {
