@@ -1,0 +1,36 @@
+-- Lemmas on what a loop of writes leaves.
+use Rattle.std.proofs.Common.{◌≡◌, ℕ, ◌+◌, ◌≤◌, List, [], ◌++◌, length, take, drop, None, Some, Option, ap, refl, sym, ◌∙◌, arith, append_assoc}
+use Rattle.std.proofs.lemmas.List.{take-append-drop}
+use Rattle.std.proofs.Math.Seq.{take-append_seam}
+use Rattle.std.specs.Io.KnownBytes.{Appends, Keeps}
+use Rattle.edge.specs.Counts.{Rose}
+
+pub rose_since : (a b c : ℕ) → a ≤ b → Rose b c → Rose a c
+rose_since a b c earlier rose = omega arith
+
+-- two pieces, one after the other, are one
+pub appends_both : (old mid new : Option (List ℕ)) (xs ys : List ℕ) → Appends old mid xs → Appends mid new ys → Appends old new (xs ++ ys)
+appends_both None mid new xs ys first second = tt
+appends_both (Some a) None new xs ys first second = absurd first
+appends_both (Some a) (Some b) None xs ys first second = absurd second
+appends_both (Some a) (Some b) (Some c) xs ys first second = second ∙ ap (λ l. l ++ ys) first ∙ append_assoc a xs ys
+
+-- a write went on with the text
+pub went_on : (old mid new : Option (List ℕ)) (text done rest : List ℕ) (n : ℕ) → text ≡ done ++ rest → Appends old mid done → Appends mid new (take n rest) → (more : List ℕ) × (text ≡ more ++ drop n rest) × Appends old new more
+went_on old mid new text done rest n parts first second =
+    (done ++ take n rest, parts ∙ ap (λ l. done ++ l) (sym (take-append-drop n rest)) ∙ sym (append_assoc done (take n rest) (drop n rest)), appends_both old mid new done (take n rest) first second)
+
+-- nothing more went out
+pub stopped : (old mid new : Option (List ℕ)) (text done rest : List ℕ) → text ≡ done ++ rest → Appends old mid done → Keeps mid new → (n : ℕ) × Appends old new (take n text)
+stopped None mid new text done rest parts first kept = (0, tt)
+stopped (Some a) None new text done rest parts first kept = absurd first
+stopped (Some a) (Some b) None text done rest parts first kept = absurd kept
+stopped (Some a) (Some b) (Some c) text done rest parts first kept =
+    (length done, kept ∙ first ∙ ap (λ l. a ++ l) (sym (ap (take (length done)) parts ∙ take-append_seam done rest)))
+
+-- what went out is a front of the text
+pub front_out : (old new : Option (List ℕ)) (text more rest : List ℕ) → text ≡ more ++ rest → Appends old new more → (n : ℕ) × Appends old new (take n text)
+front_out None new text more rest parts out = (0, tt)
+front_out (Some a) None text more rest parts out = absurd out
+front_out (Some a) (Some b) text more rest parts out =
+    (length more, out ∙ ap (λ l. a ++ l) (sym (ap (take (length more)) parts ∙ take-append_seam more rest)))
