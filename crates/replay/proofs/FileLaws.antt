@@ -4,10 +4,8 @@ use Rattle.std.specs.Option.{option_to_list}
 use Rattle.std.specs.Io.BufRead.{take_through, drop_through}
 use Rattle.std.proofs.lemmas.List.{take-append-le, append-nil}
 use Rattle.std.proofs.Math.Seq.{take-append-add, take-length}
-use Rattle.theory.specs.declared.rule.RuleName.{RuleName}
 use Rattle.theory.specs.Judgements.{Judgement}
 use Rattle.theory.specs.Things.{one}
-use Rattle.rules.specs.Rules.{rule_at}
 use Rattle.deriv_file.specs.declared.row.Row.{Row}
 use Rattle.deriv_file.specs.declared.row.Row.TheVariants.{Header, Make, CtxNil, Node, Root}
 use Rattle.deriv_file.specs.Spelling.{newest, MayStand, Spells, version_after}
@@ -23,36 +21,8 @@ use Rattle.replay.specs.declared.judging.Verdict.TheVariants.{Yes, No}
 use Rattle.replay.specs.Verdicts.{VerdictIs}
 use Rattle.replay.specs.Meant.{count_roots}
 use Rattle.derivation.specs.Meanings.{Meaning, conclusion_at}
-use Rattle.derivation.specs.Right.{RightNode, RightRow, RightRows, Begins, AllRight, FirstBad, Derives, root_of, roots_of}
-
--- a row means one thing at most
-
-node_one : (before : List Meaning) (name : RuleName) (parts premises : List ℕ) (J K : Judgement) → RightNode before name parts premises J → RightNode before name parts premises K → J ≡ K
-node_one before name parts premises J K r s =
-    let xs : r.xs ≡ s.xs = the_same (sym r.parts_are ∙ s.parts_are) in
-    let rule : r.instance.rule ≡ s.instance.rule = the_same (sym r.instance.is ∙ ap (rule_at name) xs ∙ s.instance.is) in
-    r.instance.gives ∙ ap (λ t. t.gives) rule ∙ sym s.instance.gives
-  where
-    the_same : {A : Type 0} {x y : A} → Some x ≡ Some y → x ≡ y
-    the_same e = cc
-
-row_one : (before : List Meaning) (row : Row) (m n : Meaning) → RightRow before row m → RightRow before row n → m ≡ n
-row_one [] (Header version) m n r s = r ∙ sym s
-row_one [] (Make op kids) m n r s = absurd r
-row_one [] CtxNil m n r s = absurd r
-row_one [] (Node rule parts premises) m n r s = absurd r
-row_one [] (Root node) m n r s = absurd r
-row_one (b ∷ before) (Header version) m n r s = absurd r
-row_one (b ∷ before) (Make op kids) m n r s = let e = sym r.1 ∙ s.1 in cc
-row_one (b ∷ before) CtxNil m n r s = r ∙ sym s
-row_one (b ∷ before) (Node rule parts premises) m n r s = let e : r.0 ≡ s.0 = node_one (b ∷ before) rule parts premises r.0 s.0 r.1 s.1 in cc
-row_one (b ∷ before) (Root node) m n r s = r.2 ∙ sym s.2
-
-rows_one : (before : List Meaning) (rows : List Row) (all also : List Meaning) → RightRows before rows all → RightRows before rows also → all ≡ also
-rows_one before [] all also r s = r ∙ sym s
-rows_one before (row ∷ rows) all also r s =
-    let m : r.0 ≡ s.0 = row_one before row r.0 s.0 r.1 s.1 in
-    rows_one (before ++ r.0 ∷ []) rows all also r.2 (subst (λ x. RightRows (before ++ x ∷ []) rows also) (sym m) s.2)
+use Rattle.derivation.proofs.Unique.{rows_one}
+use Rattle.derivation.specs.Right.{RightRow, RightRows, Begins, AllRight, FirstBad, Derives, root_of, roots_of}
 
 right_take : (n : ℕ) (before : List Meaning) (rows : List Row) (all : List Meaning) → RightRows before rows all → (some : List Meaning) × RightRows before (take n rows) some
 right_take zero before rows all right = (before, refl)

@@ -1,78 +1,13 @@
 -- Lemmas on answers that exclude each other.
-use Rattle.std.proofs.Common.{◌≡◌, ◌≢◌, ℕ, ◌+◌, ◌<◌, ◌++◌, List, [], ◌∷◌, length, max, take, refl, sym, ◌∙◌, ap, ap₂, subst, arith, Some, None, string_bytes, codes}
+use Rattle.std.proofs.Common.{◌≡◌, ℕ, ◌++◌, List, length, refl, sym, ◌∙◌, ap, subst, Some, None, codes}
 use Rattle.std.specs.FinMap.{get}
-use Rattle.theory.specs.declared.rule.RuleName.{RuleName}
-use Rattle.theory.specs.Judgements.{Judgement}
-use Rattle.deriv_file.specs.declared.row.Row.{Row}
-use Rattle.deriv_file.specs.declared.row.Row.TheVariants.{Header, Make, CtxNil, Node, Root}
-use Rattle.deriv_file.specs.Spelling.{newest}
-use Rattle.deriv_file.specs.Lines.{lines}
-use Rattle.deriv_file.proofs.RowsLemmas.{spell_rows_one}
-use Rattle.derivation.specs.Meanings.{Meaning, Concludes}
-use Rattle.derivation.specs.Right.{RightNode, RightRow, RightRows, Right, AllRight, FirstBad, Begins, Derives, roots_of}
+use Rattle.derivation.proofs.Unique.{derives_one, no_bad, bad_one}
 use Rattle.replay.specs.declared.judging.Verdict.{Verdict}
 use Rattle.replay.specs.declared.judging.Verdict.TheVariants.{Yes, No}
 use Rattle.replay.specs.Verdicts.{VerdictIs}
 use Rattle.edge.specs.Files.{Held, HoldsAt}
-use Rattle.session.specs.declared.answer.Answer.{Answer}
 use Rattle.session.specs.declared.answer.Answer.TheVariants as answers
-use Rattle.session.specs.Answers.{SeenFiles, MayAnswerReplay, text, status_of}
-use Rattle.session.specs.Exclusion.{OneVerdict, OneAnswer}
-
--- a node concludes one judgement
-node_one : (before : List Meaning) (rule : RuleName) (parts premises : List ℕ) (J K : Judgement) → RightNode before rule parts premises J → RightNode before rule parts premises K → J ≡ K
-node_one before rule parts premises J K a b =
-    let a_parts = a.parts_are in
-    let b_parts = b.parts_are in
-    let a_rule = a.instance.is in
-    let b_rule = b.instance.is in
-    let a_gives = a.instance.gives in
-    let b_gives = b.instance.gives in
-    let things_one : a.xs ≡ b.xs = cc in
-    let rules_one : a.instance.rule ≡ b.instance.rule = cc in
-    cc
-
--- a right row means one thing
-row_one : (before : List Meaning) (row : Row) (m n : Meaning) → RightRow before row m → RightRow before row n → m ≡ n
-row_one [] (Header version) m n a b = a ∙ sym b
-row_one [] (Make op kids) m n a b = absurd a
-row_one [] CtxNil m n a b = absurd a
-row_one [] (Node rule parts premises) m n a b = absurd a
-row_one [] (Root node) m n a b = absurd a
-row_one (x ∷ before) (Header version) m n a b = absurd a
-row_one (x ∷ before) (Make op kids) m n a b = cc
-row_one (x ∷ before) CtxNil m n a b = a ∙ sym b
-row_one (x ∷ before) (Node rule parts premises) m n a b =
-    a.2 ∙ ap Concludes (node_one (x ∷ before) rule parts premises a.0 b.0 a.1 b.1) ∙ sym b.2
-row_one (x ∷ before) (Root node) m n a b = a.2 ∙ sym b.2
-
--- right rows mean one list
-rows_one : (before : List Meaning) (rows : List Row) (all other : List Meaning) → RightRows before rows all → RightRows before rows other → all ≡ other
-rows_one before [] all other a b = a ∙ sym b
-rows_one before (row ∷ rows) all other a b =
-    let first : a.0 ≡ b.0 = row_one before row a.0 b.0 a.1 b.1 in
-    rows_one (before ++ a.0 ∷ []) rows all other a.2 (subst (λ m. RightRows (before ++ m ∷ []) rows other) (sym first) b.2)
-
--- the rows and roots of a file are fixed
-derives_one : (bytes : List ℕ) (n m : ℕ) (Js Ks : List Judgement) → Derives bytes n Js → Derives bytes m Ks → (n ≡ m) × (Js ≡ Ks)
-derives_one bytes n m Js Ks a b =
-    let rows : a.spelt ≡ b.spelt = spell_rows_one newest 0 _ a.spelt b.spelt a.begins.spelt b.begins.spelt in
-    let all : a.all ≡ b.all = rows_one [] b.spelt a.all b.all (subst (λ r. RightRows [] r a.all) rows a.begins.right) b.begins.right in
-    (a.rows_are ∙ ap length rows ∙ sym b.rows_are, a.roots_are ∙ ap₂ roots_of all rows ∙ sym b.roots_are)
-
--- a file whose rows all are right has no first bad row
-no_bad : (bytes : List ℕ) (k : ℕ) → AllRight bytes → FirstBad bytes k → ⊥
-no_bad bytes k right bad =
-    let some = right.0 in
-    let within = bad.within in
-    bad.bad (right.1 k (omega arith))
-
--- the first bad row is one
-bad_one : (bytes : List ℕ) (j k : ℕ) → FirstBad bytes j → FirstBad bytes k → j ≡ k
-bad_one bytes j k a b =
-    let not_less : j < k → ⊥ = λ lt. a.bad (b.before j lt) in
-    let not_more : k < j → ⊥ = λ lt. b.bad (a.before k lt) in
-    omega arith
+use Rattle.session.specs.Answers.{SeenFiles, text, status_of, OneVerdict, OneAnswer}
 
 pub one_verdict : OneVerdict
 one_verdict bytes (Yes n k) (Yes m l) a b =

@@ -1,8 +1,9 @@
 -- What a command may answer, and what is then printed.
-use Rattle.std.specs.Prelude.{◌≡◌, ◌⊎◌, ℕ, List, ◌++◌, take, None, Some, codes, decimal, string_bytes, Option}
+use Rattle.std.specs.Prelude.{◌≡◌, ◌≢◌, ◌⊎◌, ℕ, List, ◌++◌, take, None, Some, codes, decimal, string_bytes, Option}
 use Rattle.std.specs.Io.KnownBytes.{Appends}
 use Rattle.edge.specs.Counts.{Rose}
 use Rattle.edge.specs.Files.{Held, HoldsAt}
+use Rattle.replay.specs.declared.judging.Verdict.{Verdict}
 use Rattle.replay.specs.declared.judging.Verdict.TheVariants.{Yes, No}
 use Rattle.replay.specs.Verdicts.{VerdictIs}
 use Rattle.session.specs.declared.answer.Status.{Status}
@@ -84,3 +85,15 @@ pub record Answered (command : Option Command) (old new : SeenFiles) (before aft
   pub answer : Answer
   pub may : MayAnswer command old new answer
   pub printed : Printed answer before after result
+
+-- A law: of one file there is one verdict, yes with these numbers or no at that row.
+abbrev pub OneVerdict : Type 0
+OneVerdict = (bytes : List ℕ) (one other : Verdict) → VerdictIs bytes one → VerdictIs bytes other → one ≡ other
+
+-- A law: where it is told what is held, a replay of a path has one text and one status, but for a fault of reading.
+abbrev pub OneAnswer : Type 0
+OneAnswer =
+    (path : List ℕ) (held : Held) (old new old' new' : SeenFiles) (one other : Answer)
+    → old.held ≡ Some held → old'.held ≡ Some held → one ≢ answers.ReadFault → other ≢ answers.ReadFault
+    → MayAnswerReplay path old new one → MayAnswerReplay path old' new' other
+    → (text one ≡ text other) × (status_of one ≡ status_of other)

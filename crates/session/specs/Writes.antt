@@ -1,5 +1,5 @@
 -- What the writing of a text leaves.
-use Rattle.std.specs.Prelude.{◌≡◌, ℕ, List, take, Result, Ok, Err}
+use Rattle.std.specs.Prelude.{ℕ, List, take, Result, Ok, Err}
 use Rattle.std.specs.Io.KnownBytes.{Appends}
 use Rattle.edge.specs.Counts.{Rose}
 use Rattle.session.specs.declared.top.WriteFault.{WriteFault}

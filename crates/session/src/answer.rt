@@ -1,8 +1,7 @@
 //! The answers of the commands, their texts and their statuses.
 
 ghost use Rattle.std.specs.Prelude.{◌≡◌, IfOk, string_bytes};
-ghost use Rattle.session.specs.Answers.{text, status_of};
-ghost use Rattle.session.specs.Exclusion.{OneVerdict, OneAnswer};
+ghost use Rattle.session.specs.Answers.{text, status_of, OneVerdict, OneAnswer};
 
 use replay::Verdict;
 use std::alloc::{AllocError, Global};
@@ -37,7 +36,8 @@ pub(crate) enum Answer {
     Usage,
 }
 
-const USAGE: &str = "usage: ctt check MODULE [--turns N] [--json] | replay FILE [--of MODULE] | normal MODULE NAME [--turns N] | prompt MODULE [--turns N] | make N\n";
+const USAGE: &str =
+    "usage: ctt check MODULE [--turns N] [--json] | replay FILE [--of MODULE] | normal MODULE NAME [--turns N] | prompt MODULE [--turns N] | make N\n";
 
 impl Answer {
     /// The status that the program ends with once the answer is printed.
@@ -74,5 +74,4 @@ impl Answer {
 pub fn answers_exclude_each_other()
     ensures verdict { OneVerdict }
     ensures answer { OneAnswer }
-{
-}
+{}

@@ -14,11 +14,9 @@ pub(crate) fn replay<F: Files>(
     path: &str,
     files: &mut F,
 ) -> Result<Answer, AllocError>
-    ensures answer {
-        let seen = seen_files F.held F.misses F.fetch_faults F.store_faults in
+    ensures answer { let seen = seen_files F.held F.misses F.fetch_faults F.store_faults in
         IfOk result (λ answer. MayAnswerReplay path.now (seen files.old) (seen files.new) answer) }
-    ensures stored {
-        let seen = seen_files F.held F.misses F.fetch_faults F.store_faults in
+    ensures stored { let seen = seen_files F.held F.misses F.fetch_faults F.store_faults in
         NothingStored (seen files.old) (seen files.new) }
 {
     let mut bytes = Vec::new(alloc);

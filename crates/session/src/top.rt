@@ -1,7 +1,7 @@
 //! The top call: it does what the words ask for, and prints the answer.
 
-ghost use Rattle.std.specs.Prelude.{◌≡◌, ◌≢◌, ◌⊎◌, None, IfOk, OnOk, OnErr, IsOk};
-ghost use Rattle.session.specs.Answers.{seen_files, seen_sink, text, MayAnswer, MayStore, Printed, Answered};
+ghost use Rattle.std.specs.Prelude.{◌≡◌, ◌≢◌, None, IfOk};
+ghost use Rattle.session.specs.Answers.{seen_files, seen_sink, MayAnswer, MayStore, Printed, Answered};
 ghost use Rattle.session.specs.Words.{command, texts};
 ghost use Rattle.session.specs.Writes.{Wrote};
 
@@ -17,8 +17,7 @@ struct WriteFault;
 
 /// Writes the text, in as many pieces as the sink takes.
 fn write_text<O: Sink>(out: &mut O, text: &[u8]) -> Result<(), WriteFault>
-    ensures {
-        let seen = seen_sink O.taken O.faults in
+    ensures { let seen = seen_sink O.taken O.faults in
         Wrote text.now (seen out.old) (seen out.new) result }
 {
     let mut rest = text;
@@ -34,8 +33,7 @@ fn write_text<O: Sink>(out: &mut O, text: &[u8]) -> Result<(), WriteFault>
 
 /// Prints the answer, and gives the status to end with.
 fn print<O: Sink>(alloc: Global, answer: &Answer, out: &mut O) -> Status
-    ensures printed {
-        let seen = seen_sink O.taken O.faults in
+    ensures printed { let seen = seen_sink O.taken O.faults in
         result ≢ Status.Memory → Printed answer.now (seen out.old) (seen out.new) result }
     ensures memory { result ≡ Status.Memory → out.new ≡ out.old }
 {
@@ -49,17 +47,11 @@ fn print<O: Sink>(alloc: Global, answer: &Answer, out: &mut O) -> Status
 }
 
 /// Does what the words ask for, but for printing. The only error is want of memory.
-fn answer<F: Files>(
-    alloc: Global,
-    words: &[String],
-    files: &mut F,
-) -> Result<Answer, AllocError>
-    ensures answer {
-        let seen = seen_files F.held F.misses F.fetch_faults F.store_faults in
+fn answer_of<F: Files>(alloc: Global, words: &[String], files: &mut F) -> Result<Answer, AllocError>
+    ensures answer { let seen = seen_files F.held F.misses F.fetch_faults F.store_faults in
         IfOk result (λ answer.
-          MayAnswer (command (texts words.now)) (seen files.old) (seen files.new) answer) }
-    ensures stored {
-        let seen = seen_files F.held F.misses F.fetch_faults F.store_faults in
+        MayAnswer (command (texts words.now)) (seen files.old) (seen files.new) answer) }
+    ensures stored { let seen = seen_files F.held F.misses F.fetch_faults F.store_faults in
         MayStore (command (texts words.now)) (seen files.old) (seen files.new) }
     ensures untouched { command (texts words.now) ≡ None → files.new ≡ files.old }
 {
@@ -78,19 +70,17 @@ pub fn run<F: Files, I: Source, O: Sink>(
     input: &mut I,
     out: &mut O,
 ) -> Status
-    ensures answer {
-        let seen = seen_files F.held F.misses F.fetch_faults F.store_faults in
+    ensures answer { let seen = seen_files F.held F.misses F.fetch_faults F.store_faults in
         let seen_out = seen_sink O.taken O.faults in
         result ≢ Status.Memory → Answered (command (texts words.now))
-          (seen files.old) (seen files.new) (seen_out out.old) (seen_out out.new) result }
+        (seen files.old) (seen files.new) (seen_out out.old) (seen_out out.new) result }
     ensures memory { result ≡ Status.Memory → out.new ≡ out.old }
-    ensures stored {
-        let seen = seen_files F.held F.misses F.fetch_faults F.store_faults in
+    ensures stored { let seen = seen_files F.held F.misses F.fetch_faults F.store_faults in
         MayStore (command (texts words.now)) (seen files.old) (seen files.new) }
     ensures untouched { command (texts words.now) ≡ None → files.new ≡ files.old }
     ensures unread { input.new ≡ input.old }
 {
-    match answer(alloc, words, files) {
+    match answer_of(alloc, words, files) {
         Ok(answer) => print(alloc, &answer, out),
         Err(_) => Status::Memory,
     }

@@ -11,7 +11,7 @@ pub(crate) enum Command<'a> {
     Replay(&'a str),
 }
 
-/// Whether the word is longer than a dash that it begins with.
+/// Whether the word begins with a dash, and is longer.
 fn is_dashed(word: &str) -> bool
     ensures { result ≡ is_dashed word.now }
 {
