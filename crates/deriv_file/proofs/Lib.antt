@@ -7,3 +7,4 @@ pub mod SpellingLemmas
 pub mod ReaderLemmas
 pub mod RowsLemmas
 pub mod WriteLemmas
+pub mod ReadLemmas

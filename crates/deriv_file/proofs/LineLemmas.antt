@@ -29,8 +29,9 @@ length-drop_through-lt [] h = absurd (omega arith)
 length-drop_through-lt (x ∷ []) h = shorter_one x
 length-drop_through-lt (x ∷ y ∷ ys) h = shorter_more x (y ∷ ys) (length-drop_through-lt (y ∷ ys) (omega arith))
 
-other : (x : ℕ) (xs : List ℕ) → All (λ b. b ≢ 10) (x ∷ xs) → (ys : List ℕ) → (take_through 10 (x ∷ ys) ≡ x ∷ take_through 10 ys) × (drop_through 10 (x ∷ ys) ≡ drop_through 10 ys)
-other x xs none ys =
+-- a byte that is no newline stays in front
+other_byte : (x : ℕ) (xs : List ℕ) → All (λ b. b ≢ 10) (x ∷ xs) → (ys : List ℕ) → (take_through 10 (x ∷ ys) ≡ x ∷ take_through 10 ys) × (drop_through 10 (x ∷ ys) ≡ drop_through 10 ys)
+other_byte x xs none ys =
     let e = ne_eqb x 10 (All-head (λ b. b ≢ 10) x xs none) in
     (ap (λ t. cond t (x ∷ []) (x ∷ take_through 10 ys)) e, ap (λ t. cond t ys (drop_through 10 ys)) e)
 
@@ -38,11 +39,11 @@ other x xs none ys =
 pub first_line : (line rest : List ℕ) → All (λ b. b ≢ 10) line → (take_through 10 (line ++ 10 ∷ rest) ≡ line ++ 10 ∷ []) × (drop_through 10 (line ++ 10 ∷ rest) ≡ rest)
 first_line [] rest none = (refl, refl)
 first_line (x ∷ line) rest none =
-    let here = other x line none (line ++ 10 ∷ rest) in
+    let here = other_byte x line none (line ++ 10 ∷ rest) in
     let more = first_line line rest (All-tail (λ b. b ≢ 10) x line none) in
     (here.0 ∙ ap (λ l. x ∷ l) more.0, here.1 ∙ more.1)
 
 -- with no newline all is one line
 pub only_line : (bytes : List ℕ) → All (λ b. b ≢ 10) bytes → take_through 10 bytes ≡ bytes
 only_line [] none = refl
-only_line (x ∷ bytes) none = (other x bytes none bytes).0 ∙ ap (λ l. x ∷ l) (only_line bytes (All-tail (λ b. b ≢ 10) x bytes none))
+only_line (x ∷ bytes) none = (other_byte x bytes none bytes).0 ∙ ap (λ l. x ∷ l) (only_line bytes (All-tail (λ b. b ≢ 10) x bytes none))

@@ -25,7 +25,7 @@ same_rest words count at ids others more rest begin again =
     ∙ ap (drop count) (sym begin.spelt ∙ again.spelt)
     ∙ drop_at (map decimal others) rest count (length-map others decimal ∙ again.counted)
 
--- a header's line
+-- what else stands in the line of a row, by the first word: a header has its version
 pub header_row : (version at : ℕ) (words : List (List ℕ)) (row : Row) → codes "rules" ∷ words ≡ words_of row → MayStand version at row → (v : ℕ) × (row ≡ Header v) × (words ≡ decimal v ∷ []) × (1 ≤ v) × (v ≤ newest)
 header_row version at words (Header v) e stands = (v, refl, cc, stands.1, stands.2)
 header_row version at words row e stands = absurd (false≢true (ap (begin_with (codes "rules")) (sym e)))
@@ -39,6 +39,7 @@ tree_row version at words left name op count taken named counted (Make other kid
     (kids, ap (λ o. Make o kids) same, record { spelt = left_is ∙ sym (append-nil (map decimal kids)); counted = stands.1 ∙ ap kids_of same ∙ sym counted; earlier = stands.2 })
 tree_row version at words left name op count taken named counted row e stands = absurd (false≢true (ap (begin_with (codes "t")) (sym e)))
 
+-- the empty context has one word more
 pub context_row : (words : List (List ℕ)) (row : Row) → codes "c" ∷ words ≡ words_of row → (row ≡ CtxNil) × (words ≡ codes "nil" ∷ [])
 context_row words CtxNil e = (refl, cc)
 context_row words row e = absurd (false≢true (ap (begin_with (codes "c")) (sym e)))
@@ -57,6 +58,7 @@ node_row version at words left name rule a b taken named part_count premise_coun
     )
 node_row version at words left name rule a b taken named part_count premise_count row e stands = absurd (false≢true (ap (begin_with (codes "n")) (sym e)))
 
+-- a root has its node
 pub root_row : (words : List (List ℕ)) (row : Row) → codes "r" ∷ words ≡ words_of row → (node : ℕ) × (row ≡ Root node) × (words ≡ decimal node ∷ [])
 root_row words (Root node) e = (node, refl, cc)
 root_row words row e = absurd (false≢true (ap (begin_with (codes "r")) (sym e)))

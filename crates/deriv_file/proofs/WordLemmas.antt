@@ -7,16 +7,16 @@ use Rattle.std.proofs.lemmas.List.Splits.{slice_split_none, slice_split_at, leng
 use denote.Ref.{Bor}
 use Rattle.deriv_file.specs.Words.{line_words, words_left}
 
-no_space : (word : List ℕ) → All (λ b. b ≢ 32) word → All (λ b. (b == 32) ≡ false) word
-no_space word none = All-weaker (λ b. b ≢ 32) (λ b. (b == 32) ≡ false) (λ b other. ne_eqb b 32 other) word none
+not_spaces : (word : List ℕ) → All (λ b. b ≢ 32) word → All (λ b. (b == 32) ≡ false) word
+not_spaces word none = All-weaker (λ b. b ≢ 32) (λ b. (b == 32) ≡ false) (λ b other. ne_eqb b 32 other) word none
 
 -- the first word ends at the first space
 pub first_word : (line word rest : List ℕ) → line ≡ word ++ 32 ∷ rest → All (λ b. b ≢ 32) word → line_words line ≡ word ∷ line_words rest
-first_word line word rest e none = ap line_words e ∙ slice_split_at (λ b. b == 32) word 32 rest (no_space word none) refl
+first_word line word rest e none = ap line_words e ∙ slice_split_at (λ b. b == 32) word 32 rest (not_spaces word none) refl
 
 -- a line with no space is one word
 pub one_word : (line : List ℕ) → All (λ b. b ≢ 32) line → line_words line ≡ line ∷ []
-one_word line none = slice_split_none (λ b. b == 32) line (no_space line none)
+one_word line none = slice_split_none (λ b. b == 32) line (not_spaces line none)
 
 -- no word is left only where nothing is
 pub no_words : (rest : Option (Bor (List ℕ))) (r : Bool) → is_some rest ≡ not r → (IsTrue r → words_left rest ≡ []) × (words_left rest ≡ [] → IsTrue r)

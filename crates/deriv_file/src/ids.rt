@@ -31,7 +31,7 @@ impl Ids {
     }
 
     /// An empty list with room for so many numbers.
-    pub fn with_capacity(alloc: Global, count: usize) -> Result<Ids, AllocError>
+    pub(crate) fn with_capacity(alloc: Global, count: usize) -> Result<Ids, AllocError>
         ensures { IfOk result (λ ids. ids ≡ []) }
     {
         let items = Vec::with_capacity(alloc, count)?;

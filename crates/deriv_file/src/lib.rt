@@ -1,4 +1,8 @@
 //! Derivation files: their rows, the one spelling of each, and an exact reader.
+//!
+//! A file is lines, each ended by one newline, and row k is line k, from 0. A line is words with one space between any
+//! two. A number is `0`, or digits without a leading zero. Where it names a row, it is less than the number of the row
+//! that it stands in. That the rows which are named are of the right kinds is judged elsewhere.
 #![tactic(auto)]
 
 mod ids;

@@ -93,13 +93,7 @@ fn context(words: &mut Words<'_>, place: Place) -> Option<Row>
     ensures { Reads place.version place.at (codes "c" ∷ words.old) result }
 {
     match words.take()? {
-        b"nil" => {
-            if words.is_empty() {
-                Some(Row::CtxNil)
-            } else {
-                None
-            }
-        }
+        b"nil" if words.is_empty() => Some(Row::CtxNil),
         _ => None,
     }
 }

@@ -41,6 +41,7 @@ impl<'a> Model for Words<'a> {
 }
 
 impl<'a> Words<'a> {
+    /// The words between the spaces of a line without its newline.
     pub(crate) fn new(line: &'a [u8]) -> Words<'a>
         ensures { result ≡ line_words line.now }
     {
@@ -65,6 +66,7 @@ impl<'a> Words<'a> {
         }
     }
 
+    /// Whether no word is left.
     pub(crate) fn is_empty(&self) -> bool
         ensures { IsTrue result ↔ (self.now ≡ []) }
     {

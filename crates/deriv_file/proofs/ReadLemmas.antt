@@ -1,0 +1,56 @@
+-- What a reader has read: an invariant for loops over its answers.
+use Rattle.std.proofs.Common.{◌≡◌, ℕ, ◌<◌, ◌+◌, List, [], ◌∷◌, ◌++◌, length, refl, sym, ◌∙◌, ap, subst, arith, append_assoc}
+use Rattle.std.proofs.lemmas.List.{append-nil, length_push}
+use Rattle.std.specs.Io.BufRead.{drop_through}
+use Rattle.deriv_file.specs.declared.row.Row.{Row}
+use Rattle.deriv_file.specs.Spelling.{newest, Spells, version_after}
+use Rattle.deriv_file.specs.Lines.{lines, SpellRows, version_behind}
+use Rattle.deriv_file.specs.Reading.{Reading}
+use Rattle.deriv_file.specs.Reader.{start, line_of, past}
+use Rattle.deriv_file.proofs.LineLemmas.{lines_step}
+use Rattle.deriv_file.proofs.RowsLemmas.{spell_push, spell_parts, spell_rows_one, version_behind_push}
+
+-- a reader of the bytes that stands behind the lines of these rows
+pub record HasRead (bytes : List ℕ) (reading : Reading) (rows : List Row) : Type 0 where
+  pub done : List (List ℕ)
+  pub cut : lines bytes ≡ done ++ lines reading.rest
+  pub spell : SpellRows newest 0 done rows
+  pub at_is : reading.at ≡ length rows
+  pub version_is : reading.version ≡ version_behind newest rows
+
+pub read_none : (bytes : List ℕ) → HasRead bytes (start bytes) []
+read_none bytes = record { done = []; cut = refl; spell = tt; at_is = refl; version_is = refl }
+
+-- the line that comes, and those behind it
+pub cut_line : (bytes : List ℕ) (done : List (List ℕ)) (reading : Reading) → lines bytes ≡ done ++ lines reading.rest → 0 < length reading.rest → lines bytes ≡ done ++ line_of reading ∷ lines (drop_through 10 reading.rest)
+cut_line bytes done reading cut some = cut ∙ ap (λ ls. done ++ ls) (lines_step reading.rest some)
+
+-- a row more
+pub read_row : (bytes : List ℕ) (reading : Reading) (rows : List Row) (row : Row) → HasRead bytes reading rows → 0 < length reading.rest → Spells reading.version reading.at (line_of reading) row → HasRead bytes (past reading row) (rows ++ row ∷ [])
+read_row bytes reading rows row read some spells =
+    let line = line_of reading in
+    let there = subst (λ v. Spells v reading.at line row) read.version_is spells in
+    record {
+      done = read.done ++ line ∷ [];
+      cut = cut_line bytes read.done reading read.cut some ∙ sym (append_assoc read.done (line ∷ []) (lines (drop_through 10 reading.rest)));
+      spell = spell_push newest 0 read.done rows line row read.spell (subst (λ k. Spells (version_behind newest rows) k line row) (read.at_is ∙ omega arith) there);
+      at_is = ap (λ n. n + 1) read.at_is ∙ sym (length_push rows row);
+      version_is = ap (λ v. version_after v row) read.version_is ∙ sym (version_behind_push newest rows row);
+    }
+
+-- at the end the rows are those of the file
+pub read_all : (bytes : List ℕ) (reading : Reading) (rows : List Row) → HasRead bytes reading rows → reading.rest ≡ [] → SpellRows newest 0 (lines bytes) rows
+read_all bytes reading rows read none =
+    subst (λ ls. SpellRows newest 0 ls rows) (sym (read.cut ∙ ap (λ rest. read.done ++ lines rest) none ∙ append-nil read.done)) read.spell
+
+-- in front of a line that spells no row, no longer front of the lines spells rows
+pub read_bad : (bytes : List ℕ) (reading : Reading) (rows : List Row) → (read : HasRead bytes reading rows) → ((row : Row) → Spells reading.version reading.at (line_of reading) row → ⊥) → (more : List (List ℕ)) (others : List Row) → SpellRows newest 0 (read.done ++ line_of reading ∷ more) others → ⊥
+read_bad bytes reading rows read none more others spell =
+    let parts = spell_parts newest 0 read.done (line_of reading ∷ more) others spell in
+    let same : parts.front ≡ rows = spell_rows_one newest 0 read.done parts.front rows parts.first read.spell in
+    next_line parts.back (subst (λ front. SpellRows (version_behind newest front) (0 + length front) (line_of reading ∷ more) parts.back) same parts.next)
+  where
+    next_line : (back : List Row) → SpellRows (version_behind newest rows) (0 + length rows) (line_of reading ∷ more) back → ⊥
+    next_line [] next = next
+    next_line (row ∷ back) next =
+        none row (subst (λ k. Spells reading.version k (line_of reading) row) (omega (arith, read.at_is)) (subst (λ v. Spells v (0 + length rows) (line_of reading) row) (sym read.version_is) next.0))
