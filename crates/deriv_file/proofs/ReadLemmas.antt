@@ -43,14 +43,18 @@ pub read_all : (bytes : List ℕ) (reading : Reading) (rows : List Row) → HasR
 read_all bytes reading rows read none =
     subst (λ ls. SpellRows newest 0 ls rows) (sym (read.cut ∙ ap (λ rest. read.done ++ lines rest) none ∙ append-nil read.done)) read.spell
 
--- in front of a line that spells no row, no longer front of the lines spells rows
-pub read_bad : (bytes : List ℕ) (reading : Reading) (rows : List Row) → (read : HasRead bytes reading rows) → ((row : Row) → Spells reading.version reading.at (line_of reading) row → ⊥) → (more : List (List ℕ)) (others : List Row) → SpellRows newest 0 (read.done ++ line_of reading ∷ more) others → ⊥
-read_bad bytes reading rows read none more others spell =
-    let parts = spell_parts newest 0 read.done (line_of reading ∷ more) others spell in
+-- rows that the lines in front of the reader and the next one spell are those rows and one more
+pub read_next : (bytes : List ℕ) (reading : Reading) (rows others : List Row) → (read : HasRead bytes reading rows) → SpellRows newest 0 (read.done ++ line_of reading ∷ []) others → (row : Row) × (others ≡ rows ++ row ∷ []) × Spells reading.version reading.at (line_of reading) row
+read_next bytes reading rows others read spell =
+    let parts = spell_parts newest 0 read.done (line_of reading ∷ []) others spell in
     let same : parts.front ≡ rows = spell_rows_one newest 0 read.done parts.front rows parts.first read.spell in
-    next_line parts.back (subst (λ front. SpellRows (version_behind newest front) (0 + length front) (line_of reading ∷ more) parts.back) same parts.next)
+    from parts.back (parts.whole ∙ ap (λ rs. rs ++ parts.back) same) (subst (λ front. SpellRows (version_behind newest front) (0 + length front) (line_of reading ∷ []) parts.back) same parts.next)
   where
-    next_line : (back : List Row) → SpellRows (version_behind newest rows) (0 + length rows) (line_of reading ∷ more) back → ⊥
-    next_line [] next = next
-    next_line (row ∷ back) next =
-        none row (subst (λ k. Spells reading.version k (line_of reading) row) (omega (arith, read.at_is)) (subst (λ v. Spells v (0 + length rows) (line_of reading) row) (sym read.version_is) next.0))
+    from : (back : List Row) → others ≡ rows ++ back → SpellRows (version_behind newest rows) (0 + length rows) (line_of reading ∷ []) back → (row : Row) × (others ≡ rows ++ row ∷ []) × Spells reading.version reading.at (line_of reading) row
+    from [] e next = absurd next
+    from (row ∷ []) e next = (
+      row,
+      e,
+      subst (λ k. Spells reading.version k (line_of reading) row) (omega (arith, read.at_is)) (subst (λ v. Spells v (0 + length rows) (line_of reading) row) (sym read.version_is) next.0),
+    )
+    from (row ∷ r ∷ back) e next = absurd next.1

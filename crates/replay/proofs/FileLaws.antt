@@ -1,20 +1,21 @@
 -- Files whose first rows are right.
 use Rattle.std.proofs.Common.{◌≡◌, ℕ, zero, suc, ◌+◌, ◌<◌, ◌≤◌, List, [], ◌∷◌, ◌++◌, length, take, refl, sym, ◌∙◌, ap, subst, arith, append_assoc, length-append, Some}
 use Rattle.std.specs.Option.{option_to_list}
-use Rattle.std.specs.Io.BufRead.{take_through, drop_through}
+use Rattle.std.specs.Io.BufRead.{drop_through}
 use Rattle.std.proofs.lemmas.List.{take-append-le, append-nil}
 use Rattle.std.proofs.Math.Seq.{take-append-add, take-length}
 use Rattle.theory.specs.Judgements.{Judgement}
 use Rattle.theory.specs.Things.{one}
 use Rattle.deriv_file.specs.declared.row.Row.{Row}
 use Rattle.deriv_file.specs.declared.row.Row.TheVariants.{Header, Make, CtxNil, Node, Root}
-use Rattle.deriv_file.specs.Spelling.{newest, MayStand, Spells, version_after}
-use Rattle.deriv_file.specs.Lines.{lines, SpellRows, version_behind}
+use Rattle.deriv_file.specs.Spelling.{newest, MayStand, Spells}
+use Rattle.deriv_file.specs.Lines.{lines, SpellRows}
 use Rattle.deriv_file.specs.Reading.{Reading}
 use Rattle.deriv_file.specs.Reader.{start, past, line_of, NextIs}
 use Rattle.deriv_file.specs.declared.reader.Next.TheVariants as next
-use Rattle.deriv_file.proofs.LineLemmas.{lines_step, length-drop_through-lt}
-use Rattle.deriv_file.proofs.RowsLemmas.{spell_length, spell_rows_one, spell_take, spell_push, spell_parts, version_behind_push}
+use Rattle.deriv_file.proofs.LineLemmas.{length-drop_through-lt}
+use Rattle.deriv_file.proofs.ReadLemmas.{HasRead, read_none, read_row, read_all, read_next, cut_line}
+use Rattle.deriv_file.proofs.RowsLemmas.{spell_length, spell_take}
 use Rattle.deriv_file.proofs.SpellingLemmas.{spells_one}
 use Rattle.replay.specs.declared.judging.Verdict.{Verdict}
 use Rattle.replay.specs.declared.judging.Verdict.TheVariants.{Yes, No}
@@ -100,42 +101,27 @@ count_le (Node rule parts premises ∷ rows) = omega (arith, count_le rows)
 
 -- The lines in front of a reader spell rows that are right and mean that, and so many of them are roots.
 pub record Progress (bytes : List ℕ) (reading : Reading) (all : List Meaning) (roots : ℕ) : Type 0 where
-  pub done : List (List ℕ)
   pub rows : List Row
-  pub cut : lines bytes ≡ done ++ lines reading.rest
-  pub spelt : SpellRows newest 0 done rows
+  pub read : HasRead bytes reading rows
   pub right : RightRows [] rows all
-  pub at : reading.at ≡ length rows
-  pub version : reading.version ≡ version_behind newest rows
   pub roots_are : roots ≡ count_roots rows
 
 pub at_start : (bytes : List ℕ) (reading : Reading) (all : List Meaning) → reading ≡ start bytes → all ≡ [] → Progress bytes reading all 0
-at_start bytes reading all e none = rw (e, none) (record { done = []; rows = []; cut = refl; spelt = tt; right = refl; at = refl; version = refl; roots_are = refl })
+at_start bytes reading all e none = rw (e, none) (record { rows = []; read = read_none bytes; right = refl; roots_are = refl })
 
 pub count_is : (bytes : List ℕ) (reading : Reading) (all : List Meaning) (roots : ℕ) → Progress bytes reading all roots → (reading.at ≡ length all) × (roots ≤ length all)
 count_is bytes reading all roots p =
     let n : length all ≡ length p.rows = omega (arith, right_length [] p.rows all p.right) in
-    (p.at ∙ sym n, omega (arith, n, p.roots_are, count_le p.rows))
-
-cut_more : (bytes rest : List ℕ) (done : List (List ℕ)) → lines bytes ≡ done ++ lines rest → 0 < length rest → lines bytes ≡ done ++ take_through 10 rest ∷ lines (drop_through 10 rest)
-cut_more bytes rest done cut some = cut ∙ ap (λ ls. done ++ ls) (lines_step rest some)
+    (p.read.at_is ∙ sym n, omega (arith, n, p.roots_are, count_le p.rows))
 
 -- one more right row
 pub progress : (bytes : List ℕ) (reading : Reading) (all : List Meaning) (roots : ℕ) (row : Row) (m : Meaning) → Progress bytes reading all roots → 0 < length reading.rest → Spells reading.version reading.at (line_of reading) row → RightRow all row m → Progress bytes (past reading row) (all ++ m ∷ []) (roots + count_roots (row ∷ []))
-progress bytes reading all roots row m p some spells right =
-    let line = line_of reading in
-    let place : reading.at ≡ 0 + length p.rows = omega (arith, p.at) in
-    let here : Spells (version_behind newest p.rows) (0 + length p.rows) line row = rw (p.version, place) at spells in
-    record {
-      done = p.done ++ line ∷ [];
-      rows = p.rows ++ row ∷ [];
-      cut = cut_more bytes reading.rest p.done p.cut some ∙ sym (append_assoc p.done (line ∷ []) (lines (drop_through 10 reading.rest)));
-      spelt = spell_push newest 0 p.done p.rows line row p.spelt here;
-      right = right_push [] p.rows all row m p.right right;
-      at = omega (arith, p.at, length-append p.rows (row ∷ []));
-      version = ap (λ v. version_after v row) p.version ∙ sym (version_behind_push newest p.rows row);
-      roots_are = ap (λ n. n + count_roots (row ∷ [])) p.roots_are ∙ sym (count_push p.rows row);
-    }
+progress bytes reading all roots row m p some spells right = record {
+  rows = p.rows ++ row ∷ [];
+  read = read_row bytes reading p.rows row p.read some spells;
+  right = right_push [] p.rows all row m p.right right;
+  roots_are = ap (λ n. n + count_roots (row ∷ [])) p.roots_are ∙ sym (count_push p.rows row);
+}
 
 -- the rows so far are right
 before_is_right : (bytes : List ℕ) (done more : List (List ℕ)) (rows : List Row) (all : List Meaning) → lines bytes ≡ done ++ more → SpellRows newest 0 done rows → RightRows [] rows all → (n : ℕ) → n ≤ length done → (some : List Row) × (means : List Meaning) × Begins bytes n some means
@@ -150,36 +136,23 @@ before_is_right bytes done more rows all cut spelt right n low =
       },
     )
 
--- the row that is spelt behind some is the last of them
-last_spelt : (done : List (List ℕ)) (line : List ℕ) (rows others : List Row) → SpellRows newest 0 done rows → SpellRows newest 0 (done ++ line ∷ []) others → (row : Row) × (others ≡ rows ++ row ∷ []) × Spells (version_behind newest rows) (0 + length rows) line row
-last_spelt done line rows others spelt also =
-    let parts = spell_parts newest 0 done (line ∷ []) others also in
-    let same : parts.front ≡ rows = spell_rows_one newest 0 done parts.front rows parts.first spelt in
-    from parts.back (parts.whole ∙ ap (λ rs. rs ++ parts.back) same) (rw same at parts.next)
-  where
-    from : (back : List Row) → others ≡ rows ++ back → SpellRows (version_behind newest rows) (0 + length rows) (line ∷ []) back → (row : Row) × (others ≡ rows ++ row ∷ []) × Spells (version_behind newest rows) (0 + length rows) line row
-    from [] e spell = absurd spell
-    from (row ∷ []) e spell = (row, e, spell.0)
-    from (row ∷ r ∷ back) e spell = absurd spell.1
-
 -- the next line spells no right row
 pub bad_next : (bytes : List ℕ) (reading : Reading) (all : List Meaning) (roots : ℕ) → Progress bytes reading all roots → 0 < length reading.rest → ((row : Row) (m : Meaning) → Spells reading.version reading.at (line_of reading) row → RightRow all row m → ⊥) → FirstBad bytes reading.at
 bad_next bytes reading all roots p some none =
     let line = line_of reading in
+    let done = p.read.done in
     let more = lines (drop_through 10 reading.rest) in
-    let cut = cut_more bytes reading.rest p.done p.cut some in
-    let same : length p.done ≡ reading.at = spell_length newest 0 p.done p.rows p.spelt ∙ sym p.at in
-    let here : take (reading.at + 1) (lines bytes) ≡ p.done ++ line ∷ [] = ap (λ n. take (n + 1) (lines bytes)) (sym same) ∙ ap (take (length p.done + 1)) cut ∙ take-append-add p.done (line ∷ more) 1 in
-    let place : reading.at ≡ 0 + length p.rows = omega (arith, p.at) in
+    let cut = cut_line bytes done reading p.read.cut some in
+    let same : length done ≡ reading.at = spell_length newest 0 done p.rows p.read.spell ∙ sym p.read.at_is in
+    let here : take (reading.at + 1) (lines bytes) ≡ done ++ line ∷ [] = ap (λ n. take (n + 1) (lines bytes)) (sym same) ∙ ap (take (length done + 1)) cut ∙ take-append-add done (line ∷ more) 1 in
     record {
-      within = rw cut (omega (arith, length-append p.done (line ∷ more)));
-      before = λ j below. before_is_right bytes p.done (line ∷ more) p.rows all cut p.spelt p.right (j + 1) (omega arith);
+      within = rw cut (omega (arith, length-append done (line ∷ more)));
+      before = λ j below. before_is_right bytes done (line ∷ more) p.rows all cut p.read.spell p.right (j + 1) (omega arith);
       bad = λ right.
-          let spelt : SpellRows newest 0 (p.done ++ line ∷ []) right.0 = subst (λ ls. SpellRows newest 0 ls right.0) here right.2.spelt in
-          let last = last_spelt p.done line p.rows right.0 p.spelt spelt in
-          let parts = right_last [] p.rows last.0 right.1 (subst (λ rs. RightRows [] rs right.1) last.1 right.2.right) in
-          let front : parts.0 ≡ all = rows_one [] p.rows parts.0 all parts.2 p.right in
-          none last.0 parts.1 (subst (λ v. Spells v reading.at line last.0) (sym p.version) (subst (λ n. Spells (version_behind newest p.rows) n line last.0) (sym place) last.2)) (subst (λ ms. RightRow ms last.0 parts.1) front parts.3);
+          let next = read_next bytes reading p.rows right.0 p.read (subst (λ ls. SpellRows newest 0 ls right.0) here right.2.spelt) in
+          let last = right_last [] p.rows next.0 right.1 (subst (λ rs. RightRows [] rs right.1) next.1 right.2.right) in
+          let front : last.0 ≡ all = rows_one [] p.rows last.0 all last.2 p.right in
+          none next.0 last.1 next.2 (subst (λ ms. RightRow ms next.0 last.1) front last.3);
     }
 
 pub bad_spelling : (bytes : List ℕ) (reading : Reading) (all : List Meaning) (roots : ℕ) → Progress bytes reading all roots → 0 < length reading.rest → ((row : Row) → Spells reading.version reading.at (line_of reading) row → ⊥) → FirstBad bytes reading.at
@@ -195,21 +168,21 @@ bad_row bytes reading all roots row p some spells none = bad_next bytes reading 
 pub nothing_there : (bytes : List ℕ) (reading : Reading) (all : List Meaning) (roots : ℕ) → Progress bytes reading all roots → reading.rest ≡ [] → length all ≡ 0 → FirstBad bytes 0
 nothing_there bytes reading all roots p none empty =
     let n = (count_is bytes reading all roots p).0 in
-    let count : length (lines bytes) ≡ 0 = ap length p.cut ∙ ap (λ rest. length (p.done ++ lines rest)) none ∙ ap length (append-nil p.done) ∙ spell_length newest 0 p.done p.rows p.spelt ∙ sym p.at ∙ n ∙ empty in
+    let whole = spell_length newest 0 (lines bytes) p.rows (read_all bytes reading p.rows p.read none) in
+    let count : length (lines bytes) ≡ 0 = whole ∙ sym p.read.at_is ∙ n ∙ empty in
     record { within = omega arith; before = λ j below. absurd (omega arith); bad = λ right. absurd (omega (arith, count, right.2.within)) }
 
 pub all_done : (bytes : List ℕ) (reading : Reading) (all : List Meaning) (roots : ℕ) → Progress bytes reading all roots → reading.rest ≡ [] → 0 < length all → AllRight bytes × (Js : List Judgement) × Derives bytes (length all) Js × (roots ≡ length Js)
 all_done bytes reading all roots p none some =
-    let cut : lines bytes ≡ p.done = p.cut ∙ ap (λ rest. p.done ++ lines rest) none ∙ append-nil p.done in
-    let same : length p.done ≡ length p.rows = spell_length newest 0 p.done p.rows p.spelt in
-    let n : length all ≡ length p.rows = omega (arith, right_length [] p.rows all p.right) in
-    let count : length (lines bytes) ≡ length p.done = ap length cut in (
-      (omega arith, λ k below. before_is_right bytes p.done [] p.rows all (cut ∙ sym (append-nil p.done)) p.spelt p.right (k + 1) (omega arith)),
+    let spelt = read_all bytes reading p.rows p.read none in
+    let count : length (lines bytes) ≡ length p.rows = spell_length newest 0 (lines bytes) p.rows spelt in
+    let n : length all ≡ length p.rows = omega (arith, right_length [] p.rows all p.right) in (
+      (omega arith, λ k below. before_is_right bytes (lines bytes) [] p.rows all (sym (append-nil (lines bytes))) spelt p.right (k + 1) (omega arith)),
       roots_of all p.rows,
       record {
         spelt = p.rows;
         all = all;
-        begins = record { within = omega arith; spelt = subst (λ ls. SpellRows newest 0 ls p.rows) (sym (take-length (lines bytes) ∙ cut)) p.spelt; right = p.right };
+        begins = record { within = omega arith; spelt = subst (λ ls. SpellRows newest 0 ls p.rows) (sym (take-length (lines bytes))) spelt; right = p.right };
         rows_are = n;
         roots_are = refl;
       },
