@@ -1,4 +1,6 @@
 -- Facts on tests.
+use Rattle.std.specs.Prelude.{Result, Ok, Err}
+use Rattle.std.specs.Result.{OnErr}
 use Rattle.std.proofs.Common.{◌≡◌, Bool, true, false, not, IsTrue, ◌↔◌}
 
 -- what `!=` says of `==`
@@ -18,3 +20,8 @@ never h = cc
 pub refuted : (b : Bool) (X : Type 0) → (X → IsTrue b) → b ≡ false → IsTrue false ↔ X
 refuted true X f e = cc
 refuted false X f e = (λ h. absurd (never h), f)
+
+-- where there is want of memory
+pub on_err : {T E P : Type 0} (r : Result T E) → P → OnErr r P
+on_err (Ok x) p = tt
+on_err (Err e) p = p

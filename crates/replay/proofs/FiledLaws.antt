@@ -1,8 +1,9 @@
 -- What the entries of a file mean, place by place, and when the store grows.
-use Rattle.std.proofs.Common.{◌≡◌, ℕ, zero, suc, ◌<◌, List, [], ◌∷◌, length, take, get_or, refl, sym, ◌∙◌, ap, arith, Option, Some, None, IsSome, Bool, true, false, ◌&&◌}
+use Rattle.std.proofs.Common.{◌≡◌, ℕ, suc, ◌<◌, List, [], ◌∷◌, length, take, refl, sym, ◌∙◌, ap, Option, Some, None, IsSome, true}
 use Rattle.std.specs.Prelude.{slice_get, is_some, unwrap_or}
 use Rattle.std.proofs.lemmas.List.Sums.{AllPass-from_list_all}
-use Rattle.std.proofs.lemmas.Option.{slice_get_within}
+use Rattle.std.specs.Option.{option_map}
+use Rattle.std.proofs.lemmas.Option.{slice_get-map, slice_get_within, get_or_from_slice_get}
 use Rattle.theory.specs.declared.claim.Claim.{Claim}
 use Rattle.theory.specs.Judgements.{Judgement}
 use Rattle.theory.specs.Claims.{form_of, rows_of}
@@ -13,15 +14,14 @@ use Rattle.rules.specs.Claims.{claimed}
 use Rattle.derivation.specs.Meanings.{Meaning, Means, Concludes, Nothing, thing_of, conclusion_of, thing_at, conclusion_at}
 use Rattle.replay.specs.declared.entry.Entry.{Entry}
 use Rattle.replay.specs.declared.entry.Entry.TheVariants as entry
+use Rattle.replay.proofs.EachLaws.{later}
 use Rattle.replay.specs.Filed.{entry_meaning, filed, AllFiled}
 
 abbrev meaning_of : List Thing → Entry → Meaning
 meaning_of xs e = unwrap_or (entry_meaning xs e) Nothing
 
-pub filed-at : (xs : List Thing) (es : List Entry) (k : ℕ) (d : Entry) → k < length es → slice_get (filed xs es) k ≡ Some (unwrap_or (entry_meaning xs (get_or es k d)) Nothing)
-filed-at xs [] k d lt = absurd (omega arith)
-filed-at xs (e ∷ es) zero d lt = refl
-filed-at xs (e ∷ es) (suc k) d lt = filed-at xs es k d (omega arith)
+filed-at : (xs : List Thing) (es : List Entry) (k : ℕ) (e : Entry) → slice_get es k ≡ Some e → slice_get (filed xs es) k ≡ Some (meaning_of xs e)
+filed-at xs es k e is = slice_get-map (meaning_of xs) es k ∙ ap (option_map (meaning_of xs)) is
 
 -- what stands at a place, by the kind of its entry
 
@@ -37,27 +37,27 @@ node_there : (o : Option Judgement) → (one thing_of (Some (unwrap_or (one (λ 
 node_there None = (refl, refl)
 node_there (Some J) = (refl, refl)
 
-pub at_thing : (xs : List Thing) (es : List Entry) (k row : ℕ) (d : Entry) → k < length es → get_or es k d ≡ entry.Thing row → Stands xs es k (slice_get xs row) None
-at_thing xs es k row d lt e =
-    let f = filed-at xs es k d lt ∙ ap (λ v. Some (meaning_of xs v)) e in
+pub at_thing : (xs : List Thing) (es : List Entry) (k row : ℕ) → slice_get es k ≡ Some (entry.Thing row) → Stands xs es k (slice_get xs row) None
+at_thing xs es k row e =
+    let f = filed-at xs es k (entry.Thing row) e in
     let t = thing_there (slice_get xs row) in
     record { thing_is = ap (one thing_of) f ∙ t.0; conclusion_is = ap (one conclusion_of) f ∙ t.1 }
 
-pub at_node : (xs : List Thing) (es : List Entry) (k : ℕ) (claim : Claim) (d : Entry) → k < length es → get_or es k d ≡ entry.Node claim → Stands xs es k None (claimed (slice_get xs) claim)
-at_node xs es k claim d lt e =
-    let f = filed-at xs es k d lt ∙ ap (λ v. Some (meaning_of xs v)) e in
+pub at_node : (xs : List Thing) (es : List Entry) (k : ℕ) (claim : Claim) → slice_get es k ≡ Some (entry.Node claim) → Stands xs es k None (claimed (slice_get xs) claim)
+at_node xs es k claim e =
+    let f = filed-at xs es k (entry.Node claim) e in
     let t = node_there (claimed (slice_get xs) claim) in
     record { thing_is = ap (one thing_of) f ∙ t.0; conclusion_is = ap (one conclusion_of) f ∙ t.1 }
 
-pub at_nothing : (xs : List Thing) (es : List Entry) (k : ℕ) (d : Entry) → k < length es → get_or es k d ≡ entry.Nothing → Stands xs es k None None
-at_nothing xs es k d lt e =
-    let f = filed-at xs es k d lt ∙ ap (λ v. Some (meaning_of xs v)) e in
+pub at_nothing : (xs : List Thing) (es : List Entry) (k : ℕ) → slice_get es k ≡ Some entry.Nothing → Stands xs es k None None
+at_nothing xs es k e =
+    let f = filed-at xs es k entry.Nothing e in
     record { thing_is = ap (one thing_of) f; conclusion_is = ap (one conclusion_of) f }
 
 -- every entry means something
 
-means_some : (xs : List Thing) (es : List Entry) (k : ℕ) (d : Entry) → AllFiled xs es → k < length es → is_some (entry_meaning xs (get_or es k d)) ≡ true
-means_some xs es k d all lt = AllPass-from_list_all (λ e. is_some (entry_meaning xs e)) es all k d lt
+means_some : (xs : List Thing) (es : List Entry) (k : ℕ) (e : Entry) → AllFiled xs es → slice_get es k ≡ Some e → is_some (entry_meaning xs e) ≡ true
+means_some xs es k e all is = rw (get_or_from_slice_get es k e e is) at (AllPass-from_list_all (λ e. is_some (entry_meaning xs e)) es all k e (slice_get_within es k e is))
 
 thing_some : (o : Option Thing) → is_some (one (λ x. Some (Means x)) o) ≡ true → IsSome o
 thing_some None e = e
@@ -67,11 +67,11 @@ node_some : (o : Option Judgement) → is_some (one (λ J. Some (Concludes J)) o
 node_some None e = e
 node_some (Some J) e = refl
 
-pub live_thing : (xs : List Thing) (es : List Entry) (k row : ℕ) (d : Entry) → AllFiled xs es → k < length es → get_or es k d ≡ entry.Thing row → IsSome (slice_get xs row)
-live_thing xs es k row d all lt e = thing_some (slice_get xs row) (rw e at (means_some xs es k d all lt))
+pub live_thing : (xs : List Thing) (es : List Entry) (k row : ℕ) → AllFiled xs es → slice_get es k ≡ Some (entry.Thing row) → IsSome (slice_get xs row)
+live_thing xs es k row all e = thing_some (slice_get xs row) (means_some xs es k (entry.Thing row) all e)
 
-pub live_node : (xs : List Thing) (es : List Entry) (k : ℕ) (claim : Claim) (d : Entry) → AllFiled xs es → k < length es → get_or es k d ≡ entry.Node claim → IsSome (claimed (slice_get xs) claim)
-live_node xs es k claim d all lt e = node_some (claimed (slice_get xs) claim) (rw e at (means_some xs es k d all lt))
+pub live_node : (xs : List Thing) (es : List Entry) (k : ℕ) (claim : Claim) → AllFiled xs es → slice_get es k ≡ Some (entry.Node claim) → IsSome (claimed (slice_get xs) claim)
+live_node xs es k claim all e = node_some (claimed (slice_get xs) claim) (means_some xs es k (entry.Node claim) all e)
 
 pub row_within : (xs : List Thing) (row : ℕ) → IsSome (slice_get xs row) → row < length xs
 row_within xs row some = from (slice_get xs row) refl some
@@ -106,21 +106,11 @@ entry-later xs ys kept (entry.Node claim) some =
     ap (one (λ J. Some (Concludes J))) (claimed-later (slice_get xs) (slice_get ys) kept claim (node_some (claimed (slice_get xs) claim) some))
 entry-later xs ys kept entry.Nothing some = refl
 
-pub both_true : (a b : Bool) → (a && b) ≡ true → (a ≡ true) × (b ≡ true)
-both_true true b e = (refl, e)
-both_true false b e = cc
-
 pub filed-later : (xs ys : List Thing) → Kept (slice_get xs) (slice_get ys) → (es : List Entry) → AllFiled xs es → filed ys es ≡ filed xs es
-filed-later xs ys kept [] all = refl
-filed-later xs ys kept (e ∷ es) all =
-    let b = both_true (is_some (entry_meaning xs e)) _ all in
-    rw (entry-later xs ys kept e b.0, filed-later xs ys kept es b.1) refl
+filed-later xs ys kept es all = (later (entry_meaning xs) (entry_meaning ys) Nothing (entry-later xs ys kept) es all).same
 
 pub all-later : (xs ys : List Thing) → Kept (slice_get xs) (slice_get ys) → (es : List Entry) → AllFiled xs es → AllFiled ys es
-all-later xs ys kept [] all = refl
-all-later xs ys kept (e ∷ es) all =
-    let b = both_true (is_some (entry_meaning xs e)) _ all in
-    rw (entry-later xs ys kept e b.0, b.0, all-later xs ys kept es b.1) refl
+all-later xs ys kept es all = (later (entry_meaning xs) (entry_meaning ys) Nothing (entry-later xs ys kept) es all).all
 
 -- cut back to what was kept, the store is what it was
 pub take-kept : (xs ys : List Thing) → Kept (slice_get xs) (slice_get ys) → take (length xs) ys ≡ xs

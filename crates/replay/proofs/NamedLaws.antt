@@ -26,14 +26,14 @@ map-push (y ∷ xs) x = ap (λ ks. kind_of y ∷ ks) (map-push xs x)
 pub no_names : (xs : List Thing) (es : List Entry) (numbers : List ℕ) (kinds : List PartKind) (rows : List ℕ) → rows ≡ [] → NamesSo xs es numbers kinds 0 rows
 no_names xs es numbers kinds rows e = record { Xs = []; rows_mean = rw e refl; numbers_mean = refl; kinds_are = refl }
 
-pub one_name : (xs : List Thing) (es : List Entry) (numbers : List ℕ) (kinds : List PartKind) (n : ℕ) (rows next : List ℕ) (row : ℕ) (d : Entry) (k : PartKind) → n < length numbers → n < length kinds → NamesSo xs es numbers kinds n rows → next ≡ rows ++ row ∷ [] → get_or numbers n 0 < length es → get_or es (get_or numbers n 0) d ≡ entry.Thing row → one (λ x. Some (kind_of x)) (slice_get xs row) ≡ Some (get_or kinds n k) → NamesSo xs es numbers kinds (n + 1) next
-one_name xs es numbers kinds n rows next row d k lt lk so e within at kind = from (slice_get xs row) refl kind
+pub one_name : (xs : List Thing) (es : List Entry) (numbers : List ℕ) (kinds : List PartKind) (n : ℕ) (rows next : List ℕ) (row : ℕ) (k : PartKind) → n < length numbers → n < length kinds → NamesSo xs es numbers kinds n rows → next ≡ rows ++ row ∷ [] → slice_get es (get_or numbers n 0) ≡ Some (entry.Thing row) → one (λ x. Some (kind_of x)) (slice_get xs row) ≡ Some (get_or kinds n k) → NamesSo xs es numbers kinds (n + 1) next
+one_name xs es numbers kinds n rows next row k lt lk so e at kind = from (slice_get xs row) refl kind
   where
     from : (o : Option Thing) → slice_get xs row ≡ o → one (λ x. Some (kind_of x)) o ≡ Some (get_or kinds n k) → NamesSo xs es numbers kinds (n + 1) next
     from None eo is = cc
     from (Some x) eo is =
         let same : kind_of x ≡ get_or kinds n k = cc in
-        let there : thing_at (filed xs es) (get_or numbers n 0) ≡ Some x = (at_thing xs es (get_or numbers n 0) row d within at).thing_is ∙ eo in
+        let there : thing_at (filed xs es) (get_or numbers n 0) ≡ Some x = (at_thing xs es (get_or numbers n 0) row at).thing_is ∙ eo in
         record {
           Xs = so.Xs ++ x ∷ [];
           rows_mean = ap (meanings (slice_get xs)) e ∙ meanings-push (slice_get xs) rows so.Xs row x so.rows_mean eo;

@@ -1,6 +1,6 @@
 -- When a row is right behind others, by its kind.
-use Rattle.std.proofs.Common.{◌≡◌, ℕ, zero, suc, ◌<◌, ◌≤◌, List, [], ◌∷◌, ◌++◌, length, take, refl, sym, ◌∙◌, ap, arith, Option, Some, None, IsSome, map, Bool, true, false}
-use Rattle.std.specs.Prelude.{slice_get, replicate, is_some, unwrap_or, ◌==◌, if◌then◌else◌}
+use Rattle.std.proofs.Common.{◌≡◌, ℕ, zero, suc, ◌<◌, ◌≤◌, List, [], ◌∷◌, ◌++◌, length, take, refl, sym, ◌∙◌, ap, arith, Option, Some, None, IsSome, map, Bool, false}
+use Rattle.std.specs.Prelude.{slice_get, replicate, ◌==◌}
 use Rattle.theory.specs.declared.op.Op.{Op}
 use Rattle.theory.specs.declared.rule.PartKind.{PartKind}
 use Rattle.theory.specs.declared.rule.PartKind.TheVariants as part
@@ -16,10 +16,9 @@ use Rattle.derivation.specs.Right.{RightNode, RightRow}
 use Rattle.replay.specs.declared.entry.Entry.{Entry}
 use Rattle.replay.specs.declared.rows.TheConstants.{TERMS}
 use Rattle.std.specs.Prelude.{Result, Ok, Err}
-use Rattle.std.specs.Result.{OnErr}
-use Rattle.std.specs.List.{list_all}
+use Rattle.std.specs.Result.{OnOk, OnErr}
 use Rattle.replay.specs.Filed.{filed, AllFiled, entry_meaning}
-use Rattle.replay.proofs.FiledLaws.{both_true}
+use Rattle.replay.proofs.EachLaws.{each_push, all_push}
 use Rattle.replay.specs.Named.{Names, NamesNone}
 
 pub make_right : (before : List Meaning) → 0 < length before → (op : Op) (kids : List ℕ) (x : Thing) → one (made op) (things before kids) ≡ Some x → RightRow before (Make op kids) (Means x)
@@ -147,23 +146,8 @@ not_empty (e ∷ es) b f e' = omega arith
 -- one more row
 
 pub filed_push : (xs : List Thing) (es : List Entry) (e : Entry) (m : Meaning) → entry_meaning xs e ≡ Some m → filed xs (es ++ e ∷ []) ≡ filed xs es ++ m ∷ []
-filed_push xs [] e m is = rw is refl
-filed_push xs (x ∷ es) e m is = ap (λ ms. unwrap_or (entry_meaning xs x) Nothing ∷ ms) (filed_push xs es e m is)
+filed_push xs es e m is = each_push (entry_meaning xs) Nothing es e m is
 
-pub all_push : (xs : List Thing) (es : List Entry) (e : Entry) (m : Meaning) → AllFiled xs es → entry_meaning xs e ≡ Some m → AllFiled xs (es ++ e ∷ [])
-all_push xs [] e m all is = rw is refl
-all_push xs (x ∷ es) e m all is =
-    let b = both_true (is_some (entry_meaning xs x)) (list_all (λ e. is_some (entry_meaning xs e)) es) all in
-    rw (b.0, all_push xs es e m b.1 is) refl
-
-pub all_pushed : (b : Bool) (xs : List Thing) (es next : List Entry) (e : Entry) (m : Meaning) → AllFiled xs es → entry_meaning xs e ≡ Some m → next ≡ (if b then es ++ e ∷ [] else es) → AllFiled xs next
-all_pushed true xs es next e m all is n = rw n (all_push xs es e m all is)
-all_pushed false xs es next e m all is n = rw n all
-
-pub none_pushed : (b : Bool) (es next : List Entry) (e : Entry) → b ≡ false → next ≡ (if b then es ++ e ∷ [] else es) → next ≡ es
-none_pushed b es next e off n = rw off at n
-
--- where there is want of memory
-pub on_err : {T E P : Type 0} (r : Result T E) → P → OnErr r P
-on_err (Ok x) p = tt
-on_err (Err e) p = p
+pub all_pushed : {T E : Type 0} (r : Result T E) (xs : List Thing) (es next : List Entry) (e : Entry) (m : Meaning) → AllFiled xs es → entry_meaning xs e ≡ Some m → OnOk r (next ≡ es ++ e ∷ []) → OnErr r (next ≡ es) → AllFiled xs next
+all_pushed (Ok _) xs es next e m all is ok err = rw ok (all_push (entry_meaning xs) es e m all is)
+all_pushed (Err _) xs es next e m all is ok err = rw err all

@@ -1,5 +1,5 @@
 -- What the rows of a store mean, when it grows and when it is cut.
-use Rattle.std.proofs.Common.{◌≡◌, ℕ, zero, suc, ◌+◌, ◌<◌, List, [], ◌∷◌, ◌++◌, length, take, get_or, refl, sym, ◌∙◌, ap, arith, Option, Some, None, IsSome, Bool, true, false, cond, ◌&&◌, append_assoc, length-append}
+use Rattle.std.proofs.Common.{◌≡◌, ℕ, zero, suc, ◌+◌, ◌<◌, List, [], ◌∷◌, ◌++◌, length, take, get_or, refl, sym, ◌∙◌, ap, arith, Option, Some, None, IsSome, Bool, true, false, cond, append_assoc, length-append}
 use Rattle.std.specs.Prelude.{slice_get, is_some, unwrap_or}
 use Rattle.std.proofs.lemmas.List.{take_all, append-nil}
 use Rattle.theory.specs.Operators.{kids_of}
@@ -8,15 +8,16 @@ use Rattle.theory.specs.Things.{Thing, AContext, Kept, one, made, meanings}
 use Rattle.theory.proofs.Meanings.{meanings-kept}
 use Rattle.replay.specs.declared.stored.Stored.{Stored}
 use Rattle.replay.specs.declared.stored.Stored.TheVariants.{Make, CtxNil}
+use Rattle.replay.proofs.EachLaws.{both_true}
 use Rattle.replay.specs.Stores.{meant, thing_of, things_behind, all_mean, things, AllMean}
 
 -- a list's front keeps its places
-pub slice_get-front : (xs ys : List Thing) (k : ℕ) (x : Thing) → slice_get xs k ≡ Some x → slice_get (xs ++ ys) k ≡ Some x
+pub slice_get-front : {X : Type 0} (xs ys : List X) (k : ℕ) (x : X) → slice_get xs k ≡ Some x → slice_get (xs ++ ys) k ≡ Some x
 slice_get-front [] ys k x e = cc
 slice_get-front (y ∷ xs) ys zero x e = e
 slice_get-front (y ∷ xs) ys (suc k) x e = slice_get-front xs ys k x e
 
-pub slice_get-next : (xs ys : List Thing) (x : Thing) → slice_get (xs ++ x ∷ ys) (length xs) ≡ Some x
+pub slice_get-next : {X : Type 0} (xs ys : List X) (x : X) → slice_get (xs ++ x ∷ ys) (length xs) ≡ Some x
 slice_get-next [] ys x = refl
 slice_get-next (y ∷ xs) ys x = slice_get-next xs ys x
 
@@ -51,10 +52,6 @@ length-things rows = let b = behind [] rows in ap length b.split ∙ b.count
 pub things-push : (known : List Thing) (rows : List Stored) (row : Stored) → things_behind known (rows ++ row ∷ []) ≡ things_behind known rows ++ thing_of (things_behind known rows) row ∷ []
 things-push known [] row = refl
 things-push known (r ∷ rows) row = things-push (known ++ thing_of known r ∷ []) rows row
-
-both_true : (a b : Bool) → (a && b) ≡ true → (a ≡ true) × (b ≡ true)
-both_true true b e = (refl, e)
-both_true false b e = cc
 
 pub mean-push : (known : List Thing) (rows : List Stored) (row : Stored) → all_mean known rows ≡ true → IsSome (meant (things_behind known rows) row) → all_mean known (rows ++ row ∷ []) ≡ true
 mean-push known [] row all some = rw some refl

@@ -9,7 +9,7 @@ use Rattle.replay.specs.Shown.{shown}
 
 -- what each row means
 abbrev pub meant_by : Rows → List Meaning
-meant_by rows = filed (shown rows.store) rows.entries.items
+meant_by rows = filed (shown rows.store) rows.entries
 
 -- the number of root rows
 abbrev pub count_roots : List Row → ℕ

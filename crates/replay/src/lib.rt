@@ -5,6 +5,7 @@
 
 mod claims;
 mod compare;
+mod entries;
 mod entry;
 mod judging;
 mod named;

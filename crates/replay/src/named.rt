@@ -6,6 +6,7 @@ ghost use Rattle.replay.specs.Filed.{AllFiled};
 ghost use Rattle.replay.specs.Named.{Names, NamesNone};
 ghost use Rattle.replay.specs.Shown.{shown};
 
+use crate::entries::Entries;
 use crate::entry::Entry;
 use crate::store::Store;
 use std::alloc::{AllocError, Global};
@@ -15,7 +16,7 @@ use theory::PartKind;
 pub fn named_rows(
     alloc: Global,
     store: &Store,
-    entries: &[Entry],
+    entries: &Entries,
     numbers: &[u64],
     kinds: &[PartKind],
 ) -> Result<Option<Vec<u64>>, AllocError>
@@ -27,9 +28,8 @@ pub fn named_rows(
 {
     let mut rows = Vec::with_capacity(alloc, numbers.len())?;
     for at in 0..numbers.len() {
-        let number = numbers[at] as usize;
         let kind = kinds[at];
-        match entries[number] {
+        match entries.entry(numbers[at]) {
             Entry::Thing(row) => {
                 if store.kind(row) != kind {
                     return Ok(None);

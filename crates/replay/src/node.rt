@@ -12,6 +12,7 @@ ghost use Rattle.replay.specs.Filed.{filed, AllFiled, wants_of};
 ghost use Rattle.replay.specs.Shown.{shown};
 
 use crate::claims::same_claim;
+use crate::entries::Entries;
 use crate::entry::Entry;
 use crate::named::named_rows;
 use crate::store::Store;
@@ -23,7 +24,7 @@ use theory::{Claim, RuleName, count_premises, part_kinds};
 fn premise_holds(
     alloc: Global,
     store: &mut Store,
-    entries: &[Entry],
+    entries: &Entries,
     rule: RuleName,
     rows: &[u64],
     premise: u64,
@@ -37,7 +38,7 @@ fn premise_holds(
     ensures same { OnOk result (shown store.new ≡ shown store.old) }
     ensures holds { IfOk result (λ holds. IsTrue holds ↔ (conclusion_at (filed (shown store.old) entries.now) premise ≡ premise_at at (rule_over rule (meanings (slice_get (shown store.old)) rows.now)))) }
 {
-    let claim = match entries[premise as usize] {
+    let claim = match entries.entry(premise) {
         Entry::Node(claim) => claim,
         Entry::Thing(_) => return Ok(false),
         Entry::Nothing => return Ok(false),
@@ -53,7 +54,7 @@ fn premise_holds(
 fn premises_hold(
     alloc: Global,
     store: &mut Store,
-    entries: &[Entry],
+    entries: &Entries,
     rule: RuleName,
     rows: &[u64],
     premises: &[u64],
@@ -78,7 +79,7 @@ fn premises_hold(
 pub fn node_claim(
     alloc: Global,
     store: &mut Store,
-    entries: &[Entry],
+    entries: &Entries,
     rule: RuleName,
     parts: &[u64],
     premises: &[u64],

@@ -9,6 +9,7 @@ ghost use Rattle.deriv_file.specs.declared.row.Row.TheVariants as row;
 ghost use Rattle.replay.specs.Filed.{filed, AllFiled, EntryIs};
 ghost use Rattle.replay.specs.Shown.{shown};
 
+use crate::entries::Entries;
 use crate::entry::Entry;
 use crate::named::named_rows;
 use crate::node::node_claim;
@@ -26,7 +27,7 @@ static TERMS: [PartKind; MOST_KIDS] = [PartKind::Term; MOST_KIDS];
 fn tree_entry(
     alloc: Global,
     store: &mut Store,
-    entries: &[Entry],
+    entries: &Entries,
     op: Op,
     kids: &[u64],
 ) -> Result<Option<Entry>, AllocError>
@@ -44,13 +45,13 @@ fn tree_entry(
 }
 
 /// The entry of a root row, where what it names is a node.
-fn root_entry(store: &Store, entries: &[Entry], node: u64) -> Option<Entry>
+fn root_entry(store: &Store, entries: &Entries, node: u64) -> Option<Entry>
     requires filed { AllFiled (shown store.now) entries.now }
     requires some { 0 < length entries.now }
     requires earlier { node < length entries.now }
     ensures { EntryIs (filed (shown store.now) entries.now) (shown store.now) (row.Root node) result }
 {
-    match entries[node as usize] {
+    match entries.entry(node) {
         Entry::Node(_) => Some(Entry::Nothing),
         Entry::Thing(_) => None,
         Entry::Nothing => None,
@@ -61,7 +62,7 @@ fn root_entry(store: &Store, entries: &[Entry], node: u64) -> Option<Entry>
 fn entry_of(
     alloc: Global,
     store: &mut Store,
-    entries: &[Entry],
+    entries: &Entries,
     row: &Row,
 ) -> Result<Option<Entry>, AllocError>
     requires filed { AllFiled (shown store.old) entries.now }
@@ -100,8 +101,8 @@ fn entry_of(
 #[derive(Drop)]
 pub struct Rows {
     store: Store,
-    entries: Vec<Entry>,
-    ghost filed: { AllFiled (shown store) entries.items },
+    entries: Entries,
+    ghost filed: { AllFiled (shown store) entries },
 }
 
 impl Rows {
@@ -116,7 +117,7 @@ impl Rows {
     {
         Rows {
             store: Store::new(alloc),
-            entries: Vec::new(alloc),
+            entries: Entries::new(alloc),
         }
     }
 

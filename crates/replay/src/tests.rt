@@ -99,7 +99,11 @@ fn towers(alloc: Global) -> Result<String, AllocError> {
     text.push_str("rules 1\nc nil\nn ctx.nil\nt zero\nt zero\nn zero 1 2\n")?;
     for at in 0..HEIGHT {
         let row = 3 * at + 3;
-        let line = format!(in alloc; "t suc {row}\nt suc {}\nn suc 1 {row} {}\n", row + 1, row + 2)?;
+        let line = format!(in alloc;
+            "t suc {row}\nt suc {}\nn suc 1 {row} {}\n",
+            row + 1,
+            row + 2
+        )?;
         text.push_str(&line)?;
     }
     let last = 3 * HEIGHT + 3;

@@ -1,4 +1,4 @@
-use Rattle.std.proofs.Common.{◌≡◌, ◌∙◌, sym, ap, take}
+use Rattle.std.proofs.Common.{◌≡◌, ◌∙◌, sym, ap, take, Some}
 use Rattle.std.specs.Prelude.{slice_get}
 use Rattle.theory.specs.Things.{meanings}
 use Rattle.theory.proofs.Meanings.{kept-same}
@@ -10,12 +10,12 @@ use Rattle.replay.proofs.node.premise_holds.Goals as goal
 pub returns-in-Thing-clause-holds : goal.returns-in-Thing-clause-holds
 returns-in-Thing-clause-holds c =
     let xs = shown c.args.store.now in
-    no_node _ _ (premise_some c.args.rule (meanings (slice_get xs) c.args.rows.now) c.args.at c.requires.parts c.requires.within) (at_thing xs c.args.entries.now c.args.premise c.in-Thing.field-0 _ c.requires.earlier c.in-Thing.is).conclusion_is
+    no_node _ _ (premise_some c.args.rule (meanings (slice_get xs) c.args.rows.now) c.args.at c.requires.parts c.requires.within) (at_thing xs c.args.entries.now c.args.premise c.in-Thing.field-0 (c.entry.ensures ∙ ap Some c.in-Thing.is)).conclusion_is
 
 pub returns-in-Nothing-clause-holds : goal.returns-in-Nothing-clause-holds
 returns-in-Nothing-clause-holds c =
     let xs = shown c.args.store.now in
-    no_node _ _ (premise_some c.args.rule (meanings (slice_get xs) c.args.rows.now) c.args.at c.requires.parts c.requires.within) (at_nothing xs c.args.entries.now c.args.premise _ c.requires.earlier c.in-Nothing.is).conclusion_is
+    no_node _ _ (premise_some c.args.rule (meanings (slice_get xs) c.args.rows.now) c.args.at c.requires.parts c.requires.within) (at_nothing xs c.args.entries.now c.args.premise (c.entry.ensures ∙ ap Some c.in-Nothing.is)).conclusion_is
 
 pub same_claim-requires-clause-live_left : goal.same_claim-requires-clause-live_left
 same_claim-requires-clause-live_left c =
@@ -25,7 +25,7 @@ same_claim-requires-clause-live_left c =
 pub same_claim-requires-clause-live_right : goal.same_claim-requires-clause-live_right
 same_claim-requires-clause-live_right c =
     let xs = shown c.args.store.now in
-    let live = live_node xs c.args.entries.now c.args.premise c.in-Node.claim _ c.requires.filed c.requires.earlier c.in-Node.is in
+    let live = live_node xs c.args.entries.now c.args.premise c.in-Node.claim c.requires.filed (c.entry.ensures ∙ ap Some c.in-Node.is) in
     rw (claimed-later (slice_get xs) (slice_get (shown c.wanted.new.maker)) c.wanted.ensures.kept c.in-Node.claim live) live
 
 pub returns-clause-same : goal.returns-clause-same
@@ -40,6 +40,6 @@ returns-clause-kept c =
 pub returns-clause-holds : goal.returns-clause-holds
 returns-clause-holds c =
     let xs = shown c.args.store.now in
-    let live = live_node xs c.args.entries.now c.args.premise c.in-Node.claim _ c.requires.filed c.requires.earlier c.in-Node.is in
+    let live = live_node xs c.args.entries.now c.args.premise c.in-Node.claim c.requires.filed (c.entry.ensures ∙ ap Some c.in-Node.is) in
     let later = claimed-later (slice_get xs) (slice_get (shown c.wanted.new.maker)) c.wanted.ensures.kept c.in-Node.claim live in
-    iff_along c.in_ok-same.same _ _ _ _ c.in_ok-same.ensures ((at_node xs c.args.entries.now c.args.premise c.in-Node.claim _ c.requires.earlier c.in-Node.is).conclusion_is ∙ sym later) (sym c.in_ok-wanted.ensures.claim)
+    iff_along c.in_ok-same.same _ _ _ _ c.in_ok-same.ensures ((at_node xs c.args.entries.now c.args.premise c.in-Node.claim (c.entry.ensures ∙ ap Some c.in-Node.is)).conclusion_is ∙ sym later) (sym c.in_ok-wanted.ensures.claim)

@@ -1,3 +1,4 @@
+use Rattle.std.proofs.Common.{◌∙◌, ap, Some}
 use Rattle.replay.specs.Filed.{filed}
 use Rattle.replay.specs.Shown.{shown}
 use Rattle.replay.proofs.FiledLaws.{at_thing, at_node, at_nothing, live_node}
@@ -8,16 +9,16 @@ pub returns-in-Node : goal.returns-in-Node
 returns-in-Node c =
     let xs = shown c.args.store.now in
     let es = c.args.entries.now in
-    root_entry_right (filed xs es) (some_filed xs es c.requires.some) c.args.node _ (live_node xs es c.args.node c.in-Node.field-0 _ c.requires.filed c.requires.earlier c.in-Node.is) (at_node xs es c.args.node c.in-Node.field-0 _ c.requires.earlier c.in-Node.is).conclusion_is
+    root_entry_right (filed xs es) (some_filed xs es c.requires.some) c.args.node _ (live_node xs es c.args.node c.in-Node.field-0 c.requires.filed (c.entry.ensures ∙ ap Some c.in-Node.is)) (at_node xs es c.args.node c.in-Node.field-0 (c.entry.ensures ∙ ap Some c.in-Node.is)).conclusion_is
 
 pub returns-in-Thing : goal.returns-in-Thing
 returns-in-Thing c =
     let xs = shown c.args.store.now in
     let es = c.args.entries.now in
-    root_wrong (filed xs es) (some_filed xs es c.requires.some) c.args.node (at_thing xs es c.args.node c.in-Thing.field-0 _ c.requires.earlier c.in-Thing.is).conclusion_is
+    root_wrong (filed xs es) (some_filed xs es c.requires.some) c.args.node (at_thing xs es c.args.node c.in-Thing.field-0 (c.entry.ensures ∙ ap Some c.in-Thing.is)).conclusion_is
 
 pub returns-in-Nothing : goal.returns-in-Nothing
 returns-in-Nothing c =
     let xs = shown c.args.store.now in
     let es = c.args.entries.now in
-    root_wrong (filed xs es) (some_filed xs es c.requires.some) c.args.node (at_nothing xs es c.args.node _ c.requires.earlier c.in-Nothing.is).conclusion_is
+    root_wrong (filed xs es) (some_filed xs es c.requires.some) c.args.node (at_nothing xs es c.args.node (c.entry.ensures ∙ ap Some c.in-Nothing.is)).conclusion_is
