@@ -14,3 +14,6 @@ pub use rule::{
     ContextRule, NatRule, PartKind, RuleName, UniverseRule, count_parts, count_premises, part_kind,
     part_kinds, rule_name, rule_of,
 };
+
+#[cfg(test)]
+mod tests;
