@@ -1,5 +1,5 @@
 -- Facts on every rule of the table.
-use Rattle.std.proofs.Common.{◌≡◌, List, [], ◌∷◌, length, refl, sym, ◌∙◌, ap, Option, Some, None, IsSome, map}
+use Rattle.std.proofs.Common.{◌≡◌, List, [], ◌∷◌, length, refl, sym, ◌∙◌, ap, Some, IsSome, map}
 use Rattle.theory.specs.declared.rule.PartKind.{PartKind}
 use Rattle.theory.specs.declared.rule.PartKind.TheVariants as part
 use Rattle.theory.specs.declared.rule.ContextRule.TheVariants.{CtxNil}

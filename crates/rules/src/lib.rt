@@ -13,3 +13,6 @@ mod table;
 
 pub use as_rows::{SideTest, concluded, side, wanted};
 pub use maker::Maker;
+
+#[cfg(test)]
+mod tests;
