@@ -1,6 +1,6 @@
 -- Pairs of rows to compare.
-use Rattle.std.specs.Prelude.{◌≡◌, ℕ, List, [], ◌∷◌, ◌==◌, if◌then◌else◌, length, IsSome}
-use Rattle.theory.specs.declared.op.Op.{Op}
+use Rattle.std.specs.Prelude.{◌≡◌, ℕ, List, [], ◌∷◌, ◌==◌, if◌then◌else◌, take, IsSome}
+use Rattle.theory.specs.Operators.{kids_of}
 use Rattle.theory.specs.Things.{Meanings, one, made, meanings}
 use Rattle.replay.specs.declared.compare.Pair.{Pair}
 use Rattle.replay.specs.declared.compare.Look.{Look}
@@ -21,6 +21,6 @@ Agrees f p = f p.left ≡ f p.right
 abbrev pub Shows : Meanings → Pair → Look → Type 0
 Shows f p Same = Agrees f p
 Shows f p Differ = Agrees f p → ⊥
-Shows f p (Kids ks ls) =
-    (length ks.now ≡ length ls.now)
-    × (op : Op) × (f p.left ≡ one (made op) (meanings f ks.now)) × (f p.right ≡ one (made op) (meanings f ls.now))
+Shows f p (Kids op ks ls) =
+    (f p.left ≡ one (made op) (meanings f (take (kids_of op) ks)))
+    × (f p.right ≡ one (made op) (meanings f (take (kids_of op) ls)))

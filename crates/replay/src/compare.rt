@@ -6,8 +6,9 @@ ghost use Rattle.replay.specs.Pairs.{differing, Live, Shows};
 ghost use Rattle.replay.specs.Shown.{shown};
 
 use crate::store::Store;
-use crate::stored::{Stored, kids_in};
+use crate::stored::{MOST_KIDS, Stored, kids_in, widened};
 use std::alloc::{AllocError, Global};
+use theory::Op;
 
 /// Two rows to compare.
 #[derive(Clone, Copy, Debug)]
@@ -35,24 +36,24 @@ fn push_differing(todo: &mut Vec<Pair>, left: &[u64], right: &[u64]) -> Result<(
 
 /// What a look at two rows shows.
 #[derive(Clone, Copy, Debug)]
-pub enum Look<'a> {
+pub enum Look {
     /// They mean the same.
     Same,
     /// They do not.
     Differ,
-    /// They are of one operator, and so mean the same where their kids do.
-    Kids(&'a [u64], &'a [u64]),
+    /// They are of this operator, and so mean the same where its kids among these cells do.
+    Kids(Op, [u64; MOST_KIDS], [u64; MOST_KIDS]),
 }
 
 /// Looks at the rows of a pair.
-fn look_at<'a>(store: &'a Store, pair: Pair) -> Look<'a>
+fn look_at(store: &Store, pair: Pair) -> Look
     requires { Live (slice_get (shown store.now)) pair }
     ensures { Shows (slice_get (shown store.now)) pair result }
 {
     match (store.row(pair.left), store.row(pair.right)) {
         (Stored::Make(op, kids), Stored::Make(other, others)) => {
             if op == other {
-                Look::Kids(kids_in(*op, kids), kids_in(*op, others))
+                Look::Kids(*op, widened(kids), widened(others))
             } else {
                 Look::Differ
             }
@@ -81,7 +82,9 @@ pub fn same_rows(
         match look_at(store, pair) {
             Look::Same => {}
             Look::Differ => return Ok(false),
-            Look::Kids(kids, others) => push_differing(&mut todo, kids, others)?,
+            Look::Kids(op, kids, others) => {
+                push_differing(&mut todo, kids_in(op, &kids), kids_in(op, &others))?
+            }
         }
     }
     Ok(true)

@@ -10,6 +10,7 @@ mod entry;
 mod judging;
 mod named;
 mod node;
+mod number;
 mod rows;
 mod store;
 mod stored;

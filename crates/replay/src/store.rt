@@ -82,7 +82,7 @@ impl Maker for Store {
     ghost spare = { λ s. 0 };
 
     fn make(&mut self, op: Op, kids: &[u64]) -> Result<u64, AllocError> {
-        Ok(self.add(Stored::Make(op, held(kids)))?)
+        Ok(self.add(Stored::Make(op, held(kids)?))?)
     }
 
     fn ctx_nil(&mut self) -> Result<u64, AllocError> {

@@ -1,8 +1,10 @@
 //! The rows of a store.
 
-ghost use Rattle.std.specs.Prelude.{◌≡◌, ◌≤◌, length, take};
+ghost use Rattle.std.specs.Prelude.{◌≡◌, ◌≤◌, length, take, IfOk};
 ghost use Rattle.theory.specs.Operators.{kids_of};
 
+use crate::number::kept;
+use std::alloc::AllocError;
 use theory::{Op, kid_count};
 
 /// The most kids that an operator has.
@@ -12,19 +14,34 @@ pub const MOST_KIDS: usize = 4;
 #[derive(Clone, Copy, Debug)]
 pub enum Stored {
     /// An operator; the kids that it has stand first.
-    Make(Op, [u64; MOST_KIDS]),
+    Make(Op, [u32; MOST_KIDS]),
     /// The empty context.
     CtxNil,
 }
 
 /// The kids, held in place.
-pub fn held(kids: &[u64]) -> [u64; MOST_KIDS]
+pub fn held(kids: &[u64]) -> Result<[u32; MOST_KIDS], AllocError>
     requires { length kids.now ≤ 4 }
-    ensures { take (length kids.now) result ≡ kids.now }
+    ensures { IfOk result (λ cells. take (length kids.now) cells ≡ kids.now) }
 {
     let mut cells = [0; MOST_KIDS];
-    cells[..kids.len()].copy_from_slice(kids);
-    cells
+    for at in 0..kids.len() {
+        cells[at] = kept(kids[at])?;
+    }
+    Ok(cells)
+}
+
+/// The cells with the numbers as others name them.
+pub fn widened(cells: &[u32; MOST_KIDS]) -> [u64; MOST_KIDS]
+    ensures { result ≡ cells.now }
+{
+    let [first, second, third, fourth] = *cells;
+    [
+        u64::from(first),
+        u64::from(second),
+        u64::from(third),
+        u64::from(fourth),
+    ]
 }
 
 /// The kids of an operator among the cells.

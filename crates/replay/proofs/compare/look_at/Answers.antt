@@ -2,7 +2,6 @@ use Rattle.std.proofs.Common.{◌≡◌, ◌∙◌, sym, ap, rules}
 use Rattle.std.specs.Prelude.{slice_get}
 use denote.Enum.Bare.{same_true, same_false}
 use Rattle.theory.specs.contracts.op.Op.{the_type}
-use Rattle.theory.specs.Things.{one, made, meanings}
 use Rattle.replay.specs.Shown.{shown}
 use Rattle.replay.specs.Stores.{meant}
 use Rattle.replay.proofs.CompareLaws.{both_make, ops_agree}
@@ -11,13 +10,10 @@ use Rattle.replay.proofs.compare.look_at.Goals as goal
 pub returns-then-eq : goal.returns-then-eq
 returns-then-eq c =
     let known = shown c.args.store.now in
-    let f = slice_get known in
     let op = c.in-Make-Make.op in
     let same : op ≡ c.in-Make-Make.other = same_true the_type (search rules) _ _ (sym c.if-eq.ensures) in (
-      c.kids_in.ensures.count ∙ sym c.kids_in-then-eq.ensures.count,
-      op,
-      c.row.ensures ∙ ap (meant known) c.in-Make-Make.is-0 ∙ ap (λ ks. one (made op) (meanings f ks)) (sym c.kids_in.ensures.kids),
-      rw (sym same) at (c.row-2.ensures ∙ ap (meant known) c.in-Make-Make.is-1) ∙ ap (λ ks. one (made op) (meanings f ks)) (sym c.kids_in-then-eq.ensures.kids),
+      rw c.widened.ensures (c.row.ensures ∙ ap (meant known) c.in-Make-Make.is-0),
+      rw (c.widened-then-eq.ensures, same) (c.row-2.ensures ∙ ap (meant known) c.in-Make-Make.is-1),
     )
 
 pub returns-else-eq : goal.returns-else-eq

@@ -1,3 +1,4 @@
+use Rattle.std.proofs.Common.{◌∙◌, sym}
 use Rattle.std.specs.Prelude.{slice_get}
 use Rattle.replay.specs.Shown.{shown}
 use Rattle.replay.proofs.CompareLaws.{begin_pushed, last_live, must_agree, after_same, smaller_same, both_make, after_make, smaller_make}
@@ -26,12 +27,12 @@ pub loop-pair-smaller : goal.loop-pair-smaller
 loop-pair-smaller c =
     let f = slice_get (shown c.args.store.now) in
     let live = last_live f _ c.loop-pair.todo.items c.pop.new.self.items c.in-Some.pair c.in-Some.ensures.items c.loop-pair.invariant in
-    let k = c.in-Kids.ensures in
-    smaller_make f c.loop-pair.todo.items c.pop.new.self.items c.push_differing-in-Kids.new.todo.items c.in-Some.pair k.1 k.1 c.in-Kids.kids.now c.in-Kids.others.now c.in-Some.ensures.items c.in_ok-push_differing-in-Kids.ensures (both_make f c.in-Some.pair k.1 k.1 c.in-Kids.kids.now c.in-Kids.others.now live k.2 k.3)
+    let make = rw (← c.kids_in.ensures.kids, ← c.kids_in-in-Kids.ensures.kids) at (both_make f c.in-Some.pair c.in-Kids.op c.in-Kids.op _ _ live c.in-Kids.ensures.0 c.in-Kids.ensures.1) in
+    smaller_make f c.loop-pair.todo.items c.pop.new.self.items c.push_differing-in-Kids.new.todo.items c.in-Some.pair c.in-Kids.op c.in-Kids.op _ _ c.in-Some.ensures.items c.in_ok-push_differing-in-Kids.ensures make
 
 pub loop-pair-preserved : goal.loop-pair-preserved
 loop-pair-preserved c =
     let f = slice_get (shown c.args.store.now) in
     let live = last_live f _ c.loop-pair.todo.items c.pop.new.self.items c.in-Some.pair c.in-Some.ensures.items c.loop-pair.invariant in
-    let k = c.in-Kids.ensures in
-    after_make f _ c.loop-pair.todo.items c.pop.new.self.items c.push_differing-in-Kids.new.todo.items c.in-Some.pair k.1 c.in-Kids.kids.now c.in-Kids.others.now c.in-Some.ensures.items c.in_ok-push_differing-in-Kids.ensures c.loop-pair.invariant k.0 (both_make f c.in-Some.pair k.1 k.1 c.in-Kids.kids.now c.in-Kids.others.now live k.2 k.3)
+    let make = rw (← c.kids_in.ensures.kids, ← c.kids_in-in-Kids.ensures.kids) at (both_make f c.in-Some.pair c.in-Kids.op c.in-Kids.op _ _ live c.in-Kids.ensures.0 c.in-Kids.ensures.1) in
+    after_make f _ c.loop-pair.todo.items c.pop.new.self.items c.push_differing-in-Kids.new.todo.items c.in-Some.pair c.in-Kids.op _ _ c.in-Some.ensures.items c.in_ok-push_differing-in-Kids.ensures c.loop-pair.invariant (c.kids_in.ensures.count ∙ sym c.kids_in-in-Kids.ensures.count) make
