@@ -4,6 +4,7 @@ ghost use Rattle.std.specs.Prelude.{◌≡◌, ◌==◌, ◌<◌, ◌++◌, ◌�
 ghost use Rattle.replay.specs.Places.{Longer, placed};
 
 use crate::entry::Entry;
+use crate::number::kept;
 use std::alloc::{AllocError, Global};
 use std::marker::Model;
 use theory::Claim;
@@ -12,9 +13,9 @@ use theory::Claim;
 #[derive(Clone, Copy, Debug)]
 pub enum Place {
     /// A tree or a context: the number of its row in the store.
-    Thing(u64),
+    Thing(u32),
     /// A node: the number of its conclusion among the claims.
-    Node(usize),
+    Node(u32),
     /// The header or a root.
     Nothing,
 }
@@ -45,9 +46,9 @@ fn place_of(claims: &mut Vec<Claim>, entry: Entry) -> Result<Place, AllocError>
     ensures place { IfOk result (λ place. placed claims.new.items place ≡ Some entry) }
 {
     match entry {
-        Entry::Thing(row) => Ok(Place::Thing(row)),
+        Entry::Thing(row) => Ok(Place::Thing(kept(row)?)),
         Entry::Node(claim) => {
-            let at = claims.len();
+            let at = kept(claims.len() as u64)?;
             claims.push(claim)?;
             Ok(Place::Node(at))
         }
@@ -83,8 +84,8 @@ impl Entries {
         ensures { slice_get self.now number ≡ Some result }
     {
         match self.places[number as usize] {
-            Place::Thing(row) => Entry::Thing(row),
-            Place::Node(at) => Entry::Node(self.claims[at]),
+            Place::Thing(row) => Entry::Thing(u64::from(row)),
+            Place::Node(at) => Entry::Node(self.claims[at as usize]),
             Place::Nothing => Entry::Nothing,
         }
     }

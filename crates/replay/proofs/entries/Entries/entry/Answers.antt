@@ -11,7 +11,7 @@ index-requires-in-Node c =
 
 pub returns-in-Thing : goal.returns-in-Thing
 returns-in-Thing c =
-    there c.self.inside.claims.items c.self.inside.places.items c.args.self.now c.args.number c.index.result.now _ c.self.view_is c.requires c.index.ensures (ap (placed c.self.inside.claims.items) c.in-Thing.is)
+    rw c.from.ensures (there c.self.inside.claims.items c.self.inside.places.items c.args.self.now c.args.number c.index.result.now _ c.self.view_is c.requires c.index.ensures (ap (placed c.self.inside.claims.items) c.in-Thing.is))
 
 pub returns-in-Node : goal.returns-in-Node
 returns-in-Node c =
