@@ -67,6 +67,8 @@ fn test_of<M: Maker>(maker: &mut M, parts: &[u64], test: Test) -> Result<SideTes
     requires fits { fits test.steps.now ≡ true }
     requires live { IsSome (meanings (M.means maker.old) parts.now) }
     requires says { IsSome (tested test.form (run test.steps.now (meanings (M.means maker.old) parts.now))) }
+    ensures covered { 16 ≤ M.spare maker.old → IsOk result }
+    ensures spends { M.spare maker.old ≤ M.spare maker.new + 16 }
     ensures kept { Kept (M.means maker.old) (M.means maker.new) }
     ensures test { IfOk result (λ side. asked (M.means maker.new) side ≡ tested test.form (run test.steps.now (meanings (M.means maker.old) parts.now))) }
 {
@@ -81,7 +83,7 @@ fn test_of<M: Maker>(maker: &mut M, parts: &[u64], test: Test) -> Result<SideTes
     }
 }
 
-/// The premise that a rule wants at a place, counted from 0. The parts are live rows of the rule's kinds.
+/// The premise that a rule wants at a place, counted from 0, in at most 16 rows. The parts are live rows of the rule's kinds.
 pub fn wanted<M: Maker>(
     maker: &mut M,
     rule: RuleName,
@@ -90,6 +92,8 @@ pub fn wanted<M: Maker>(
 ) -> Result<Claim, AllocError>
     requires parts { IsSome (rule_over rule (meanings (M.means maker.old) parts.now)) }
     requires within { at < premises_of rule }
+    ensures covered { 16 ≤ M.spare maker.old → IsOk result }
+    ensures spends { M.spare maker.old ≤ M.spare maker.new + 16 }
     ensures kept { Kept (M.means maker.old) (M.means maker.new) }
     ensures claim { IfOk result (λ claim. claimed (M.means maker.new) claim ≡ premise_at at (rule_over rule (meanings (M.means maker.old) parts.now))) }
 {
@@ -105,8 +109,11 @@ pub fn side<M: Maker>(
     at: u8,
 ) -> Result<Option<SideTest>, AllocError>
     requires { IsSome (rule_over rule (meanings (M.means maker.old) parts.now)) }
+    ensures covered { 16 ≤ M.spare maker.old → IsOk result }
+    ensures spends { M.spare maker.old ≤ M.spare maker.new + 16 }
     ensures kept { Kept (M.means maker.old) (M.means maker.new) }
     ensures some { IfOk result (λ found. IfSome found (λ test. asked (M.means maker.new) test ≡ side_at at (rule_over rule (meanings (M.means maker.old) parts.now)))) }
+    ensures place { IfOk result (λ found. IfSome found (λ _. at < sides_in (rule_over rule (meanings (M.means maker.old) parts.now)))) }
     ensures none { IfOk result (λ found. IfNone found (sides_in (rule_over rule (meanings (M.means maker.old) parts.now)) ≤ at)) }
 {
     let sides = schema_of(rule).sides;
@@ -117,7 +124,7 @@ pub fn side<M: Maker>(
     Ok(Some(test_of(maker, parts, sides[at])?))
 }
 
-/// The conclusion of a rule. The parts are live rows of the rule's kinds.
+/// The conclusion of a rule, in at most 16 rows. The parts are live rows of the rule's kinds.
 pub fn concluded<M: Maker>(
     maker: &mut M,
     rule: RuleName,

@@ -16,3 +16,8 @@ pub returns-clause-some : goal.returns-clause-some
 returns-clause-some g c =
     c.in_ok-test_of.ensures.test
     ∙ (reading c.args.rule c.schema_of.result (meanings (g.M.Maker.means c.args.maker.now) c.args.parts.now) c.schema_of.ensures c.requires).sides c.args.at _ c.if-at-sides.false
+
+pub returns-clause-place : goal.returns-clause-place
+returns-clause-place g c =
+    let r = reading c.args.rule c.schema_of.result (meanings (g.M.Maker.means c.args.maker.now) c.args.parts.now) c.schema_of.ensures c.requires in
+    omega (arith, r.sides_count, c.if-at-sides.false)
