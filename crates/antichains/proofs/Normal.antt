@@ -7,10 +7,10 @@ use Rattle.std.specs.Cmp.Lexicographic.{slice_cmp, pointwise}
 use Rattle.std.specs.Ordering.{eq_by_cmp, is_eq}
 use Rattle.std.proofs.lemmas.Cmp.{tied_itself}
 use Rattle.std.proofs.lemmas.List.Elements.{All-nil}
-use Rattle.std.proofs.lemmas.List.Sorted.{list_any-IsPermutation}
+use Rattle.std.proofs.lemmas.List.Sorted.{list_any-IsPermutation, Contains-permutation, IsPermutation-sym}
 use Rattle.std.proofs.lemmas.Slice.Eq.{slice_eq-Decides}
-use Rattle.antichains.specs.Antichains.{IsNormal, HaveSameTruth, some_all}
-use Rattle.antichains.specs.Reductions.{IsReduced}
+use Rattle.antichains.specs.Antichains.{IsNormal, IsWithin, HaveSameTruth, some_all}
+use Rattle.antichains.specs.Reductions.{Covers, IsReduced}
 use Rattle.antichains.proofs.Members.{Contains-none}
 use Rattle.antichains.proofs.Exact.{IsExactOrder, is_eq-exact}
 use Rattle.antichains.proofs.Ordered.{sorted_nil}
@@ -44,3 +44,10 @@ same_products {X} {R} o E ties = slice_eq-Decides (λ xs ys. slice_eq-Decides de
 pub same_truths : {X : Type 0} {R : X → X → Ordering} (o : IsExactOrder R) (left right : List (List X)) (r : Bool) → IsNormal R left → IsNormal R right → IsTrue r ↔ (left ≡ right) → IsTrue r ↔ HaveSameTruth left right
 same_truths o left right r l m same =
     (λ h test. ap (some_all test) (same.0 h), λ h. same.1 (unique_normal o left right l m h))
+
+pub kept_among : {X : Type 0} (products by_length kept final : List (List X)) → IsPermutation products by_length → Covers kept by_length → IsPermutation kept final → IsWithin final products
+kept_among products by_length kept final p c q = record {
+  each = λ xs d.
+      Contains-permutation by_length products xs (IsPermutation-sym products by_length p)
+      (c.among xs (Contains-permutation final kept xs (IsPermutation-sym kept final q) d));
+}

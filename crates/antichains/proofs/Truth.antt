@@ -102,3 +102,16 @@ module _ {X : Type 0} (test : X → Bool) (left right : List (List X)) where
       ∙ each_of_one (some_all test (take i left)) (list_all test xs) (some_all test right)
       ∙ ap (λ a. (some_all test (take i left) || a) && some_all test right) (ap (list_all test) e)
       ∙ ap (λ a. a && some_all test right) (sym (list_any_more (list_all test) left i xs l))
+
+list_all-agree : {X : Type 0} (test other : X → Bool) (xs : List X) → ((x : X) → Contains xs x → test x ≡ other x) → list_all test xs ≡ list_all other xs
+list_all-agree test other [] h = refl
+list_all-agree test other (x ∷ xs) h =
+    ap (λ b. b && list_all test xs) (h x (Contains-head x xs))
+    ∙ ap (λ b. other x && b) (list_all-agree test other xs (λ y c. h y (Contains-rest x xs y c)))
+
+-- tests that agree on every element of a sum give it one truth
+pub some_all-agree : {X : Type 0} (test other : X → Bool) (lists : List (List X)) → ((xs : List X) (x : X) → Contains lists xs → Contains xs x → test x ≡ other x) → some_all test lists ≡ some_all other lists
+some_all-agree test other [] h = refl
+some_all-agree test other (xs ∷ lists) h =
+    ap (λ b. b || some_all test lists) (list_all-agree test other xs (λ x. h xs x (Contains-head xs lists)))
+    ∙ ap (λ b. list_all other xs || b) (some_all-agree test other lists (λ ys x c. h ys x (Contains-rest xs lists ys c)))

@@ -34,10 +34,11 @@ impl<T: Element> Antichain<T> {
         }
     }
 
-    /// The normal form of the sum of these products. Absorption takes a test of containment for each product with each that
-    /// stays and is no longer.
-    pub fn of(mut products: Vec<Product<T>>) -> Result<Antichain<T>, AllocError>
-        ensures { IfOk result (λ sum. HaveSameTruth sum products.items) }
+    /// The normal form of the sum of these products. It takes two sorts, and a test of containment for each product with each
+    /// that stays and is no longer.
+    pub fn from_products(mut products: Vec<Product<T>>) -> Result<Antichain<T>, AllocError>
+        ensures truth { IfOk result (λ sum. HaveSameTruth sum products.items) }
+        ensures among { IfOk result (λ sum. IsWithin sum products.items) }
     {
         products.sort_unstable_by_key(|product| product.len());
         let mut kept = irredundant(products)?;
@@ -51,6 +52,11 @@ impl<T: Element> Antichain<T> {
         ensures normal { IsNormal T.Ord.cmp self.now }
     {
         self.products.as_slice()
+    }
+
+    /// The allocator that the sum keeps.
+    pub fn alloc(&self) -> Global {
+        *self.products.allocator()
     }
 
     /// Whether two sums are one. They are exactly where they have the same truth.
@@ -67,20 +73,20 @@ impl<T: Element> Antichain<T> {
     {
         let mut products = self.products.clone()?;
         products.extend_from_slice(other.products())?;
-        Antichain::of(products)
+        Antichain::from_products(products)
     }
 
-    /// The sum of the products of one of each.
+    /// The sum of the products of one of each: at m and n products m * n merges, and one normal form.
     pub fn meet(&self, other: &Antichain<T>) -> Result<Antichain<T>, AllocError>
         ensures { IfOk result (λ sum. (test : T → Bool) → some_all test sum ≡ (some_all test self.now && some_all test other.now)) }
     {
-        let mut products = Vec::new(*self.products.allocator());
+        let mut products = Vec::new(self.alloc());
         for left in &self.products {
             for right in &other.products {
                 products.push(left.merged(right)?)?;
             }
         }
-        Antichain::of(products)
+        Antichain::from_products(products)
     }
 }
 

@@ -15,6 +15,6 @@ returns g c =
     let both : c.extend_from_slice.new.self.items ≡ c.args.self.now ++ c.args.other.now =
     added.1 ∙ ap (λ xs. xs ++ added.0) left ∙ ap (λ xs. c.args.self.now ++ xs) right
     in
-    IfOk-weaker c.of.result (λ sum. HaveSameTruth sum c.extend_from_slice.new.self.items) Joins
+    IfOk-weaker c.from_products.result (λ sum. HaveSameTruth sum c.extend_from_slice.new.self.items) Joins
     (λ sum says test. says test ∙ ap (some_all test) both ∙ some_all-append test c.args.self.now c.args.other.now)
-    c.of.ensures
+    c.from_products.ensures.truth

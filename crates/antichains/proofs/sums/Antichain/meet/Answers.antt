@@ -21,6 +21,6 @@ returns g c =
     let Sum : Type 0 = List (List g.row.T.Denot) in
     let Meets : Sum → Type 0 = λ sum. (test : g.row.T.Denot → Bool) → some_all test sum ≡ (some_all test c.args.self.now && some_all test c.args.other.now) in
     let left = take_all c.loop-left.left-index c.deref-left-items.result.now c.loop-left-test.false ∙ c.deref-left-items.ensures.value ∙ c.self.view_is in
-    IfOk-weaker c.of.result (λ sum. HaveSameTruth sum c.loop-left.products.items) Meets
+    IfOk-weaker c.from_products.result (λ sum. HaveSameTruth sum c.loop-left.products.items) Meets
     (λ sum says test. says test ∙ c.loop-left.invariant test ∙ ap (λ xs. some_all test xs && some_all test c.args.other.now) left)
-    c.of.ensures
+    c.from_products.ensures.truth

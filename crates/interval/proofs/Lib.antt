@@ -1,0 +1,5 @@
+pub mod Laws
+pub mod Truths
+pub mod Replaced
+pub mod Realized
+pub mod Stacked
