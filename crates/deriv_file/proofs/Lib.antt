@@ -1,6 +1,5 @@
 pub mod NumberLemmas
 pub mod WordLemmas
-pub mod NameLemmas
 pub mod RowLemmas
 pub mod LineLemmas
 pub mod SpellingLemmas

@@ -11,7 +11,7 @@ use Rattle.deriv_file.specs.declared.row.Row.{Row}
 use Rattle.deriv_file.specs.declared.row.Row.TheVariants.{Header, Make, CtxNil, Node, Root}
 use Rattle.deriv_file.specs.Spelling.{words_of, MayStand, newest}
 use Rattle.deriv_file.specs.Words.{BeginWith}
-use Rattle.deriv_file.proofs.NameLemmas.{same_operator, same_rule}
+use Rattle.theory.proofs.Names.{same_operator, same_rule}
 
 -- whether the first word is that
 abbrev begin_with : List ℕ → List (List ℕ) → Bool

@@ -14,7 +14,7 @@ use Rattle.deriv_file.specs.declared.row.Row.TheVariants.{Header, Make, CtxNil, 
 use Rattle.deriv_file.specs.Spelling.{words_of, spelled, Earlier, MayStand, Spells}
 use Rattle.deriv_file.specs.Words.{line_words, BeginWith}
 use Rattle.deriv_file.proofs.LineLemmas.{first_line}
-use Rattle.deriv_file.proofs.NameLemmas.{visible, operator_visible, rule_visible}
+use Rattle.theory.proofs.Names.{visible, operator_visible, rule_visible}
 use Rattle.deriv_file.proofs.RowLemmas.{header_row, tree_row, context_row, node_row, root_row, same_rest}
 use Rattle.deriv_file.proofs.WordLemmas.{first_word, one_word}
 

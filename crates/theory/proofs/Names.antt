@@ -1,5 +1,5 @@
 -- The names of operators and rules are distinct, and are words of visible characters.
-use Rattle.std.proofs.Common.{◌≡◌, ℕ, ◌<◌, Bool, true, List, [], ◌∷◌, map, length, get_or, nat_lt, refl, sym, ◌∙◌, ap, arith}
+use Rattle.std.proofs.Common.{◌≡◌, ℕ, ◌<◌, Bool, true, List, map, length, get_or, nat_lt, refl, sym, ◌∙◌, ap, arith}
 use Rattle.std.specs.List.{Contains, position_or_len, list_all, range_with_len, All}
 use Rattle.std.specs.Str.{bytes_eq}
 use Rattle.std.proofs.lemmas.List.{get_or-map, get_or_default}
@@ -9,12 +9,9 @@ use Rattle.std.proofs.lemmas.List.FromFn.{get_or-range_with_len}
 use Rattle.theory.specs.Operators.{name_of as operator_name}
 use Rattle.theory.specs.RuleNames.{name_of as rule_name}
 use Rattle.theory.specs.declared.op.Op.{Op}
-use Rattle.theory.specs.declared.op.Op.TheVariants.{I0, I1, Neg, Min, Max, F0, F1, Eq0, Eq1, Meet, Join, All as AllNames, U, Pi, Lam, App, Sig, Pair, Fst, Snd, PathP, PLam, PApp, Nat, Zero, Suc, NatRec, Sys, Empty, Comp, GlueType, Glue, Unglue}
+use Rattle.theory.specs.declared.op.TheConstants.{OPERATORS}
 use Rattle.theory.specs.declared.rule.RuleName.{RuleName}
-use Rattle.theory.specs.declared.rule.RuleName.TheVariants.{Contexts, Universe, Naturals}
-use Rattle.theory.specs.declared.rule.ContextRule.TheVariants.{CtxNil}
-use Rattle.theory.specs.declared.rule.UniverseRule.TheVariants.{TyU}
-use Rattle.theory.specs.declared.rule.NatRule.TheVariants.{NatU, Zero as ZeroRule, Suc as SucRule}
+use Rattle.theory.specs.declared.rule.TheConstants.{RULES}
 use Rattle.theory.proofs.Tables.{every_operator, every_rule}
 
 module _ {X : Type 0} (name : X → List ℕ) (table : List X) where
@@ -37,13 +34,6 @@ module _ {X : Type 0} (name : X → List ℕ) (table : List X) where
       let at_y = at_place places y (every y) in
       sym at_x.1 ∙ get_or_default table (place (name x)) x y at_x.0 ∙ ap (λ word. get_or table (place word) y) same ∙ at_y.1
 
--- the tables of operators and rules, in their order
-abbrev operator_table : List Op
-operator_table = I0 ∷ I1 ∷ Neg ∷ Min ∷ Max ∷ F0 ∷ F1 ∷ Eq0 ∷ Eq1 ∷ Meet ∷ Join ∷ AllNames ∷ U ∷ Pi ∷ Lam ∷ App ∷ Sig ∷ Pair ∷ Fst ∷ Snd ∷ PathP ∷ PLam ∷ PApp ∷ Nat ∷ Zero ∷ Suc ∷ NatRec ∷ Sys ∷ Empty ∷ Comp ∷ GlueType ∷ Glue ∷ Unglue ∷ []
-
-abbrev rule_table : List RuleName
-rule_table = Contexts CtxNil ∷ Universe TyU ∷ Naturals NatU ∷ Naturals ZeroRule ∷ Naturals SucRule ∷ []
-
 -- visible bytes alone, so no space and no newline
 abbrev pub is_visible : List ℕ → Bool
 is_visible name = list_all (nat_lt 32) name
@@ -56,13 +46,13 @@ pub visible : (name : List ℕ) → is_visible name ≡ true → All (λ b. 32 <
 visible name = (Decides-by_and (nat_lt 32) (λ b. 32 < b) is_visible (Decides-ltb 32) refl (λ _ _. refl) name).0
 
 pub operator_visible : (op : Op) → All (λ b. 32 < b) (operator_name op)
-operator_visible op = visible (operator_name op) (each_of (λ o. is_visible (operator_name o)) operator_table refl op (every_operator op))
+operator_visible op = visible (operator_name op) (each_of (λ o. is_visible (operator_name o)) OPERATORS.now refl op (every_operator op))
 
 pub rule_visible : (rule : RuleName) → All (λ b. 32 < b) (rule_name rule)
-rule_visible rule = visible (rule_name rule) (each_of (λ r. is_visible (rule_name r)) rule_table refl rule (every_rule rule))
+rule_visible rule = visible (rule_name rule) (each_of (λ r. is_visible (rule_name r)) RULES.now refl rule (every_rule rule))
 
 pub same_operator : (op other : Op) → operator_name op ≡ operator_name other → op ≡ other
-same_operator = same_from_name operator_name operator_table every_operator refl
+same_operator = same_from_name operator_name OPERATORS.now every_operator refl
 
 pub same_rule : (rule other : RuleName) → rule_name rule ≡ rule_name other → rule ≡ other
-same_rule = same_from_name rule_name rule_table every_rule refl
+same_rule = same_from_name rule_name RULES.now every_rule refl
