@@ -7,11 +7,11 @@ use Rattle.antichains.specs.Antichains.{some_all, HaveSameTruth}
 use Rattle.antichains.proofs.Members.{Contains-none, Contains-cons_cases}
 use Rattle.antichains.proofs.Truth.{some_all-agree}
 use Rattle.points.specs.Values.{Value, Valuation, value_at, with_value}
+use Rattle.points.proofs.Valuations.{with_value_same, with_value_other}
 use Rattle.interval.specs.declared.literals.Literal.{Literal}
 use Rattle.interval.specs.Literals.{signed}
 use Rattle.interval.specs.Forms.{form_value}
 use Rattle.interval.proofs.Truths.{holds_under, form_holds}
-use Rattle.interval.proofs.Replaced.{with_value_same, with_value_other}
 
 -- the value that a test gives a name
 abbrev told : (Literal → Bool) → ℕ → Value

@@ -1,5 +1,5 @@
 -- A name replaced by an end.
-use Rattle.std.proofs.Common.{◌≡◌, ◌≢◌, ℕ, zero, suc, ◌<◌, ◌+◌, ◌⊎◌, ⊎_elim, inl, inr, Bool, true, false, not, ◌||◌, List, [], ◌∷◌, ◌++◌, length, take, get_or, refl, sym, ◌∙◌, ap}
+use Rattle.std.proofs.Common.{◌≡◌, ◌≢◌, ℕ, ◌<◌, ◌+◌, ◌⊎◌, ⊎_elim, inl, inr, Bool, true, false, not, ◌||◌, List, [], ◌∷◌, ◌++◌, length, take, get_or, refl, sym, ◌∙◌, ap}
 use Rattle.std.specs.List.{All, Contains, list_all}
 use Rattle.std.proofs.lemmas.Bool.{false_from_ne_true, both_ways, cases_eq}
 use Rattle.std.proofs.lemmas.List.Elements.{All-nil, All-push, All-contains}
@@ -7,28 +7,13 @@ use Rattle.std.proofs.lemmas.List.Folds.{list_any_more}
 use Rattle.antichains.specs.Antichains.{IsWithin, IsWithout, some_all}
 use Rattle.antichains.proofs.Members.{All-from_contains}
 use Rattle.antichains.proofs.Truth.{same_truth, passes_at, passes_from, some_all-append}
-use Rattle.points.specs.Values.{Value, Valuation, value_at, with_value, end_value}
+use Rattle.points.specs.Values.{Valuation, with_value, end_value}
+use Rattle.points.proofs.Valuations.{with_value_same, with_value_other}
 use Rattle.interval.specs.declared.literals.Literal.{Literal}
 use Rattle.interval.specs.Literals.{signed}
 use Rattle.interval.specs.Forms.{form_value, LacksName}
 use Rattle.interval.proofs.Laws.{or_false}
 use Rattle.interval.proofs.Truths.{holds_under, stands_under, value_by_truths}
-
-pub with_value_same : (name : ℕ) (v : Value) (valuation : Valuation) → value_at (with_value name v valuation) name ≡ v
-with_value_same zero v [] = refl
-with_value_same zero v (w ∷ rest) = refl
-with_value_same (suc name) v [] = with_value_same name v []
-with_value_same (suc name) v (w ∷ rest) = with_value_same name v rest
-
-pub with_value_other : (name : ℕ) (v : Value) (valuation : Valuation) (other : ℕ) → other ≢ name → value_at (with_value name v valuation) other ≡ value_at valuation other
-with_value_other zero v [] zero n = absurd (n refl)
-with_value_other zero v [] (suc other) n = refl
-with_value_other zero v (w ∷ rest) zero n = absurd (n refl)
-with_value_other zero v (w ∷ rest) (suc other) n = refl
-with_value_other (suc name) v [] zero n = refl
-with_value_other (suc name) v [] (suc other) n = with_value_other name v [] other (λ e. n (ap suc e))
-with_value_other (suc name) v (w ∷ rest) zero n = refl
-with_value_other (suc name) v (w ∷ rest) (suc other) n = with_value_other name v rest other (λ e. n (ap suc e))
 
 -- the literal of the name that is 1 at the end, and the one that is 0
 abbrev pub one_at : ℕ → Bool → Literal

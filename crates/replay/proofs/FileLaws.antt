@@ -15,7 +15,7 @@ use Rattle.deriv_file.specs.Reader.{start, past, line_of, NextIs}
 use Rattle.deriv_file.specs.declared.reader.Next.TheVariants as next
 use Rattle.deriv_file.proofs.LineLemmas.{length-drop_through-lt}
 use Rattle.deriv_file.proofs.ReadLemmas.{HasRead, read_none, read_row, read_all, read_next, cut_line}
-use Rattle.deriv_file.proofs.RowsLemmas.{spell_length, spell_take}
+use Rattle.deriv_file.proofs.RowsLemmas.{spell_length}
 use Rattle.deriv_file.proofs.SpellingLemmas.{spells_one}
 use Rattle.replay.specs.declared.judging.Verdict.{Verdict}
 use Rattle.replay.specs.declared.judging.Verdict.TheVariants.{Yes, No}
@@ -23,25 +23,17 @@ use Rattle.replay.specs.Verdicts.{VerdictIs}
 use Rattle.replay.specs.Meant.{count_roots}
 use Rattle.derivation.specs.Meanings.{Meaning, conclusion_at}
 use Rattle.derivation.proofs.Unique.{rows_one}
+use Rattle.derivation.proofs.Fronts.{rows_parts, rows_whole, begins_take}
 use Rattle.derivation.specs.Right.{RightRow, RightRows, Begins, AllRight, FirstBad, Derives, root_of, roots_of}
 
-right_take : (n : ℕ) (before : List Meaning) (rows : List Row) (all : List Meaning) → RightRows before rows all → (some : List Meaning) × RightRows before (take n rows) some
-right_take zero before rows all right = (before, refl)
-right_take (suc n) before [] all right = (all, right)
-right_take (suc n) before (row ∷ rows) all right =
-    let more = right_take n (before ++ right.0 ∷ []) rows all right.2 in
-    (more.0, (right.0, right.1, more.1))
-
 right_push : (before : List Meaning) (rows : List Row) (all : List Meaning) (row : Row) (m : Meaning) → RightRows before rows all → RightRow all row m → RightRows before (rows ++ row ∷ []) (all ++ m ∷ [])
-right_push before [] all row m right next = (m, rw (sym right) next, ap (λ ms. ms ++ m ∷ []) right)
-right_push before (r ∷ rows) all row m right next = (right.0, right.1, right_push (before ++ right.0 ∷ []) rows all row m right.2 next)
+right_push before rows all row m right next = rows_whole before rows (row ∷ []) all (all ++ m ∷ []) right (m, next, refl)
 
 -- the last of some rows that are right
 right_last : (before : List Meaning) (rows : List Row) (row : Row) (all : List Meaning) → RightRows before (rows ++ row ∷ []) all → (front : List Meaning) × (m : Meaning) × RightRows before rows front × RightRow front row m
-right_last before [] row all right = (before, right.0, refl, right.1)
-right_last before (r ∷ rows) row all right =
-    let more = right_last (before ++ right.0 ∷ []) rows row all right.2 in
-    (more.0, more.1, (right.0, right.1, more.2), more.3)
+right_last before rows row all right =
+    let parts = rows_parts before rows (row ∷ []) all right in
+    (parts.0, parts.2.0, parts.1, parts.2.1)
 
 right_length : (before : List Meaning) (rows : List Row) (all : List Meaning) → RightRows before rows all → length all ≡ length before + length rows
 right_length before [] all right = rw right (omega arith)
@@ -126,15 +118,14 @@ progress bytes reading all roots row m p some spells right = record {
 -- the rows so far are right
 before_is_right : (bytes : List ℕ) (done more : List (List ℕ)) (rows : List Row) (all : List Meaning) → lines bytes ≡ done ++ more → SpellRows newest 0 done rows → RightRows [] rows all → (n : ℕ) → n ≤ length done → (some : List Row) × (means : List Meaning) × Begins bytes n some means
 before_is_right bytes done more rows all cut spelt right n low =
-    let front = right_take n [] rows all right in (
-      take n rows,
-      front.0,
-      record {
-        within = rw cut (omega (arith, length-append done more));
-        spelt = rw (cut, take-append-le n done more) (spell_take n newest 0 done rows spelt);
-        right = front.1;
-      },
-    )
+    let whole : take (length done) (lines bytes) ≡ done = ap (take (length done)) cut ∙ take-append-le (length done) done more (omega arith) ∙ take-length done in
+    begins_take bytes (length done) n rows all
+    (record {
+      within = rw cut (omega (arith, length-append done more));
+      spelt = subst (λ ls. SpellRows newest 0 ls rows) (sym whole) spelt;
+      right = right;
+    })
+    low
 
 -- the next line spells no right row
 pub bad_next : (bytes : List ℕ) (reading : Reading) (all : List Meaning) (roots : ℕ) → Progress bytes reading all roots → 0 < length reading.rest → ((row : Row) (m : Meaning) → Spells reading.version reading.at (line_of reading) row → RightRow all row m → ⊥) → FirstBad bytes reading.at

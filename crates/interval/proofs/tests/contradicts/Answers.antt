@@ -2,8 +2,8 @@
 use Rattle.std.proofs.Common.{true, [], ap, sym, ◌∙◌}
 use Rattle.std.proofs.lemmas.Bool.{false_from_ne_true, both_ways}
 use Rattle.points.specs.Values.{Value, Valuation, with_value, negation, meet}
+use Rattle.points.proofs.Valuations.{with_value_same}
 use Rattle.interval.specs.Forms.{form_value}
-use Rattle.interval.proofs.Replaced.{with_value_same}
 use Rattle.interval.proofs.tests.contradicts.Goals as goal
 
 pub returns : goal.returns
