@@ -103,7 +103,7 @@ module _ {X : Type 0} (test : X → Bool) (left right : List (List X)) where
       ∙ ap (λ a. (some_all test (take i left) || a) && some_all test right) (ap (list_all test) e)
       ∙ ap (λ a. a && some_all test right) (sym (list_any_more (list_all test) left i xs l))
 
-list_all-agree : {X : Type 0} (test other : X → Bool) (xs : List X) → ((x : X) → Contains xs x → test x ≡ other x) → list_all test xs ≡ list_all other xs
+pub list_all-agree : {X : Type 0} (test other : X → Bool) (xs : List X) → ((x : X) → Contains xs x → test x ≡ other x) → list_all test xs ≡ list_all other xs
 list_all-agree test other [] h = refl
 list_all-agree test other (x ∷ xs) h =
     ap (λ b. b && list_all test xs) (h x (Contains-head x xs))

@@ -1,5 +1,5 @@
 // Sums of products in normal form.
-ghost use Rattle.std.specs.Prelude.{◌≡◌, ◌↔◌, ◌&&◌, ◌||◌, [], List, Any, Bool, IsTrue, IfOk, length};
+ghost use Rattle.std.specs.Prelude.{◌≡◌, ◌↔◌, ◌⊎◌, ◌&&◌, ◌||◌, [], List, Any, Contains, Bool, IsTrue, IfOk, length};
 ghost use Rattle.std.specs.List.Sorted.{IsNonDecreasingBy};
 ghost use Rattle.antichains.specs.Antichains.{HaveSameTruth, IsNormal, IsWithin, some_all};
 ghost use Rattle.antichains.specs.Reductions.{IsReduced};
@@ -69,7 +69,8 @@ impl<T: Element> Antichain<T> {
 
     /// The sum of the products of both.
     pub fn join(&self, other: &Antichain<T>) -> Result<Antichain<T>, AllocError>
-        ensures { IfOk result (λ sum. (test : T → Bool) → some_all test sum ≡ (some_all test self.now || some_all test other.now)) }
+        ensures among { IfOk result (λ sum. (product : List T) → Contains sum product → Contains self.now product ⊎ Contains other.now product) }
+        ensures truth { IfOk result (λ sum. (test : T → Bool) → some_all test sum ≡ (some_all test self.now || some_all test other.now)) }
     {
         let mut products = self.products.clone()?;
         products.extend_from_slice(other.products())?;

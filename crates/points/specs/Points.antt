@@ -1,5 +1,5 @@
 -- Points of a cube, and the valuations that lie over them.
-use Rattle.std.specs.Prelude.{◌≡◌, ℕ, List, map, slice_index_or, slice_set}
+use Rattle.std.specs.Prelude.{◌≡◌, ℕ, zero, suc, Bool, true, false, List, [], ◌∷◌, map, slice_index_or, slice_set}
 use Rattle.points.specs.Values.{Value, zero_value, one_value, free_value, Valuation, value_at}
 
 -- what a point makes of a name
@@ -18,6 +18,18 @@ coordinate_at point name = slice_index_or point name Free
 -- the point with one name made free
 abbrev pub with_free : ℕ → Point → Point
 with_free name point = slice_set point name Free
+
+-- an end of the interval: 1 for `true`, 0 for `false`
+abbrev pub end_coordinate : Bool → Coordinate
+end_coordinate true = AtOne
+end_coordinate false = AtZero
+
+-- the point with one name at an end
+abbrev pub with_end : ℕ → Bool → Point → Point
+with_end zero end [] = end_coordinate end ∷ []
+with_end zero end (c ∷ rest) = end_coordinate end ∷ rest
+with_end (suc name) end [] = Free ∷ with_end name end []
+with_end (suc name) end (c ∷ rest) = c ∷ with_end name end rest
 
 abbrev pub coordinate_value : Coordinate → Value
 coordinate_value AtZero = zero_value

@@ -1,0 +1,8 @@
+pub mod Coordinates
+pub mod OwnPoints
+pub mod Joined
+pub mod Meeting
+pub mod Moved
+pub mod Formulas
+pub mod Open
+pub mod Stacked

@@ -1,0 +1,4 @@
+pub mod Equations
+pub mod Faces
+pub mod Meets
+pub mod Stacks

