@@ -1,35 +1,9 @@
--- One name of a point changed, and what is true of a name at an end.
-use Rattle.std.proofs.Common.{◌≡◌, ◌≢◌, ℕ, zero, suc, ◌⊎◌, inl, inr, ⊎_elim, Bool, true, false, not, [], ◌∷◌, refl, sym, ◌∙◌, ap}
-use Rattle.std.proofs.lemmas.List.{get_or-set_other}
+-- What is true of a name at an end.
+use Rattle.std.proofs.Common.{◌≡◌, ℕ, zero, suc, ◌⊎◌, inl, inr, ⊎_elim, Bool, true, false, not, [], ◌∷◌, refl, sym, ◌∙◌, ap}
 use Rattle.points.specs.Values.{value_at}
-use Rattle.points.specs.Points.{Coordinate, AtZero, AtOne, Free, Point, coordinate_at, with_free, end_coordinate, with_end, coordinate_value, valuation_of}
+use Rattle.points.specs.Points.{Coordinate, AtZero, AtOne, Free, Point, coordinate_at, end_coordinate, coordinate_value, valuation_of}
 use Rattle.faces.specs.declared.equations.Equation.{Equation}
 use Rattle.faces.specs.Equations.{is_at, opposite, equation_truth}
-
-pub with_free_same : (name : ℕ) (x : Point) → coordinate_at (with_free name x) name ≡ Free
-with_free_same zero [] = refl
-with_free_same zero (c ∷ rest) = refl
-with_free_same (suc name) [] = refl
-with_free_same (suc name) (c ∷ rest) = with_free_same name rest
-
-pub with_free_other : (name : ℕ) (x : Point) (other : ℕ) → other ≢ name → coordinate_at (with_free name x) other ≡ coordinate_at x other
-with_free_other name x other n = get_or-set_other x name other Free Free n
-
-pub with_end_same : (name : ℕ) (end : Bool) (x : Point) → coordinate_at (with_end name end x) name ≡ end_coordinate end
-with_end_same zero end [] = refl
-with_end_same zero end (c ∷ rest) = refl
-with_end_same (suc name) end [] = with_end_same name end []
-with_end_same (suc name) end (c ∷ rest) = with_end_same name end rest
-
-pub with_end_other : (name : ℕ) (end : Bool) (x : Point) (other : ℕ) → other ≢ name → coordinate_at (with_end name end x) other ≡ coordinate_at x other
-with_end_other zero end [] zero n = absurd (n refl)
-with_end_other zero end [] (suc other) n = refl
-with_end_other zero end (c ∷ rest) zero n = absurd (n refl)
-with_end_other zero end (c ∷ rest) (suc other) n = refl
-with_end_other (suc name) end [] zero n = refl
-with_end_other (suc name) end [] (suc other) n = with_end_other name end [] other (λ e. n (ap suc e))
-with_end_other (suc name) end (c ∷ rest) zero n = refl
-with_end_other (suc name) end (c ∷ rest) (suc other) n = with_end_other name end rest other (λ e. n (ap suc e))
 
 pub value_of_coordinate : (x : Point) (name : ℕ) → value_at (valuation_of x) name ≡ coordinate_value (coordinate_at x name)
 value_of_coordinate [] zero = refl

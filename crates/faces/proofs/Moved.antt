@@ -12,7 +12,8 @@ use Rattle.points.specs.Points.{Point, coordinate_at, with_free, with_end}
 use Rattle.faces.specs.declared.equations.Equation.{Equation}
 use Rattle.faces.specs.Equations.{is_at, opposite, equation_truth}
 use Rattle.faces.specs.Faces.{conj_truth, face_truth, IsConsistent, LacksName}
-use Rattle.faces.proofs.Coordinates.{with_free_same, with_free_other, with_end_same, with_end_other, is_at_its_end, is_at_no_other, same_or_opposite}
+use Rattle.points.proofs.PointLaws.{with_free_same, with_free_other, with_end_same, with_end_other}
+use Rattle.faces.proofs.Coordinates.{is_at_its_end, is_at_no_other, same_or_opposite}
 use Rattle.faces.proofs.OwnPoints.{consistent_within}
 
 -- what a conjunction becomes

@@ -17,7 +17,8 @@ use Rattle.points.specs.Points.{Point, coordinate_at, with_end}
 use Rattle.faces.specs.declared.equations.Equation.{Equation}
 use Rattle.faces.specs.Equations.{name_cmp, equation_cmp, is_at, equation_truth}
 use Rattle.faces.specs.Faces.{conj_truth, face_truth, IsConsistent, HasRisingNames, IsIrredundant}
-use Rattle.faces.proofs.Coordinates.{with_end_same, with_end_other, is_at_its_end, true_at_end}
+use Rattle.points.proofs.PointLaws.{with_end_same, with_end_other}
+use Rattle.faces.proofs.Coordinates.{is_at_its_end, true_at_end}
 
 -- the point that a conjunction names
 abbrev pub own_point : List Equation → Point

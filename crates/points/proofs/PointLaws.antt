@@ -1,9 +1,9 @@
--- Points with a name made free, and the valuations that lie over them.
-use Rattle.std.proofs.Common.{◌≡◌, ◌≢◌, ℕ, zero, suc, ⊎_elim, [], ◌∷◌, refl, sym, subst}
+-- Points with one name made free or put at an end, and the valuations that lie over them.
+use Rattle.std.proofs.Common.{◌≡◌, ◌≢◌, ℕ, zero, suc, ⊎_elim, Bool, [], ◌∷◌, refl, sym, ap, subst}
 use Rattle.std.proofs.lemmas.Bool.{cases_eq}
 use Rattle.std.proofs.lemmas.List.{get_or-set_other}
 use Rattle.points.specs.Values.{Value, Valuation, value_at, with_value}
-use Rattle.points.specs.Points.{Point, Free, coordinate_at, with_free, IsOver, LiesOver}
+use Rattle.points.specs.Points.{Point, Free, coordinate_at, with_free, end_coordinate, with_end, IsOver, LiesOver}
 use Rattle.points.proofs.Valuations.{with_value_other}
 
 pub with_free_same : (name : ℕ) (x : Point) → coordinate_at (with_free name x) name ≡ Free
@@ -14,6 +14,22 @@ with_free_same (suc name) (c ∷ rest) = with_free_same name rest
 
 pub with_free_other : (name : ℕ) (x : Point) (other : ℕ) → other ≢ name → coordinate_at (with_free name x) other ≡ coordinate_at x other
 with_free_other name x other n = get_or-set_other x name other Free Free n
+
+pub with_end_same : (name : ℕ) (end : Bool) (x : Point) → coordinate_at (with_end name end x) name ≡ end_coordinate end
+with_end_same zero end [] = refl
+with_end_same zero end (c ∷ rest) = refl
+with_end_same (suc name) end [] = with_end_same name end []
+with_end_same (suc name) end (c ∷ rest) = with_end_same name end rest
+
+pub with_end_other : (name : ℕ) (end : Bool) (x : Point) (other : ℕ) → other ≢ name → coordinate_at (with_end name end x) other ≡ coordinate_at x other
+with_end_other zero end [] zero n = absurd (n refl)
+with_end_other zero end [] (suc other) n = refl
+with_end_other zero end (c ∷ rest) zero n = absurd (n refl)
+with_end_other zero end (c ∷ rest) (suc other) n = refl
+with_end_other (suc name) end [] zero n = refl
+with_end_other (suc name) end [] (suc other) n = with_end_other name end [] other (λ e. n (ap suc e))
+with_end_other (suc name) end (c ∷ rest) zero n = refl
+with_end_other (suc name) end (c ∷ rest) (suc other) n = with_end_other name end rest other (λ e. n (ap suc e))
 
 pub lies_over-with_free : (x : Point) (v : Valuation) (name : ℕ) (w : Value) → LiesOver x v → LiesOver (with_free name x) (with_value name w v)
 lies_over-with_free x v name w over other =

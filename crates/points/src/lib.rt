@@ -5,7 +5,7 @@
 
 ghost use Rattle.std.specs.Prelude.{◌≡◌, ◌≢◌, ℕ, Bool, true, not};
 ghost use Rattle.points.specs.Values.{Value, zero_value, one_value, free_value, negation, meet, join, end_value, Valuation, value_at, with_value};
-ghost use Rattle.points.specs.Points.{Point, Free, coordinate_at, with_free, coordinate_value, valuation_of, LiesOver};
+ghost use Rattle.points.specs.Points.{Point, Free, coordinate_at, with_free, end_coordinate, with_end, coordinate_value, valuation_of, LiesOver};
 
 /// Values are a De Morgan algebra with the ends as its bounds; negation swaps the ends and keeps the value of a free name.
 pub fn laws_of_values()
@@ -35,11 +35,16 @@ pub fn laws_of_valuations()
         other ≢ name → value_at (with_value name v valuation) other ≡ value_at valuation other }
 {}
 
-/// A point with a name made free, the valuation that a point is, and the valuations over it.
+/// A point with a name made free or put at an end, the valuation that a point is, and the valuations over it.
 pub fn laws_of_points()
     ensures free_at_the_name { (name : ℕ) (x : Point) → coordinate_at (with_free name x) name ≡ Free }
     ensures as_before_at_another { (name : ℕ) (x : Point) (other : ℕ) →
         other ≢ name → coordinate_at (with_free name x) other ≡ coordinate_at x other }
+    ensures at_its_end { (name : ℕ) (end : Bool) (x : Point) →
+        coordinate_at (with_end name end x) name ≡ end_coordinate end }
+    ensures ends_elsewhere { (name : ℕ) (end : Bool) (x : Point) (other : ℕ) →
+        other ≢ name → coordinate_at (with_end name end x) other ≡ coordinate_at x other }
+    ensures own_end { (end : Bool) → coordinate_value (end_coordinate end) ≡ end_value end }
     ensures own_value { (x : Point) (name : ℕ) →
         value_at (valuation_of x) name ≡ coordinate_value (coordinate_at x name) }
     ensures lies_over_itself { (x : Point) → LiesOver x (valuation_of x) }

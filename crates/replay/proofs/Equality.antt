@@ -13,7 +13,7 @@ pub agrees : (same test : Bool) → test ≡ not same → test ≡ false → sam
 agrees true test e t = cc
 agrees false test e t = cc
 
-pub never : IsTrue false → ⊥
+never : IsTrue false → ⊥
 never h = cc
 
 -- a test that fails refutes what would make it pass

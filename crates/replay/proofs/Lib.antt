@@ -1,9 +1,6 @@
 pub mod Equality
 mod EachLaws
 pub mod StoreLaws
-pub mod PairLaws
-pub mod CompareLaws
-pub mod ClaimLaws
 pub mod FiledLaws
 mod PlaceLaws
 pub mod NamedLaws

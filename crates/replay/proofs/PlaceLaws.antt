@@ -7,13 +7,13 @@ use Rattle.std.proofs.lemmas.List.Sums.{AllPass-from_list_all}
 use Rattle.std.proofs.lemmas.Option.{slice_get_read, slice_get_within, slice_get-map}
 use Rattle.theory.specs.declared.claim.Claim.{Claim}
 use Rattle.theory.specs.Things.{one}
+use Rattle.closures.proofs.TableLaws.{slice_get-front}
 use Rattle.replay.specs.declared.entry.Entry.{Entry}
 use Rattle.replay.specs.declared.entry.Entry.TheVariants as entry
 use Rattle.replay.specs.declared.entries.Place.{Place}
 use Rattle.replay.specs.declared.entries.Place.TheVariants as place
 use Rattle.replay.specs.Places.{placed, listed, AllPlaced, Longer}
 use Rattle.replay.proofs.EachLaws.{later, Later}
-use Rattle.replay.proofs.StoreLaws.{slice_get-front}
 
 placed-kept : (old new : List Claim) → Longer old new → (p : Place) → is_some (placed old p) ≡ true → placed new p ≡ placed old p
 placed-kept old new l (place.Thing row) some = refl

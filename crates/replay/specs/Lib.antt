@@ -1,6 +1,5 @@
 pub mod Stores
 pub mod Shown
-pub mod Pairs
 pub mod Places
 pub mod Filed
 pub mod Named

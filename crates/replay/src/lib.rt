@@ -1,10 +1,9 @@
 //! The judge of derivation files: whether every row is right, and else which is the first that is not.
 //!
-//! It shares with the checker the language of the theory, the rules and the rows of files, and nothing else.
+//! It shares with the checker the language of the theory, the rules, the rows of files and the comparison of rows, and
+//! nothing else.
 #![tactic(auto)]
 
-mod claims;
-mod compare;
 mod entries;
 mod entry;
 mod judging;

@@ -11,11 +11,11 @@ ghost use Rattle.derivation.specs.Right.{RightNode};
 ghost use Rattle.replay.specs.Filed.{filed, AllFiled, wants_of};
 ghost use Rattle.replay.specs.Shown.{shown};
 
-use crate::claims::same_claim;
 use crate::entries::Entries;
 use crate::entry::Entry;
 use crate::named::named_rows;
 use crate::store::Store;
+use compare::same_claim;
 use rules::{concluded, wanted};
 use std::alloc::{AllocError, Global};
 use theory::{Claim, RuleName, count_premises, part_kinds};

@@ -14,7 +14,7 @@ use crate::entry::Entry;
 use crate::named::named_rows;
 use crate::node::node_claim;
 use crate::store::Store;
-use crate::stored::MOST_KIDS;
+use closures::MOST_KIDS;
 use deriv_file::Row;
 use rules::Maker;
 use std::alloc::{AllocError, Global};

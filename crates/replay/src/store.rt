@@ -2,7 +2,8 @@
 
 ghost use Rattle.replay.specs.Stores.{AllMean};
 
-use crate::stored::{Stored, held};
+use crate::stored::{Stored, held, widened};
+use closures::{ContextRow, Reader, SubstRow, TreeRow};
 use rules::Maker;
 use std::alloc::{AllocError, Global};
 use theory::{Op, PartKind};
@@ -15,9 +16,11 @@ pub struct Store {
 }
 
 impl Store {
-    ghost use Rattle.std.specs.Prelude.{◌≡◌, ◌<◌, ◌++◌, ◌∷◌, [], length, take, IfOk, OnErr, Some, IsSome, slice_get};
-    ghost use Rattle.theory.specs.Things.{Thing, one, kind_of};
-    ghost use Rattle.replay.specs.Stores.{meant};
+    ghost use Rattle.std.specs.Prelude.{◌≡◌, ◌<◌, [], length, take, IfOk, OnErr, Some, IsSome, slice_get};
+    ghost use Rattle.std.specs.List.{All};
+    ghost use Rattle.theory.specs.Things.{one, kind_of};
+    ghost use Rattle.closures.specs.MemoryRows.{IsAdded};
+    ghost use Rattle.replay.specs.Stores.{meant, names};
     ghost use Rattle.replay.specs.Shown.{shown};
 
     pub fn new(alloc: Global) -> Store
@@ -36,9 +39,10 @@ impl Store {
     }
 
     /// The row of that number.
-    pub fn row(&self, at: u64) -> &Stored
+    fn row(&self, at: u64) -> &Stored
         requires { at < length (shown self.now) }
-        ensures { slice_get (shown self.now) at ≡ meant (shown self.now) result.now }
+        ensures meaning { slice_get (shown self.now) at ≡ meant (shown self.now) result.now }
+        ensures earlier { All (λ k. k < at) (names result.now) }
     {
         &self.rows[at as usize]
     }
@@ -64,7 +68,7 @@ impl Store {
     /// A new row. After want of memory the rows are as before.
     fn add(&mut self, row: Stored) -> Result<u64, AllocError>
         requires { IsSome (meant (shown self.old) row) }
-        ensures ok { IfOk result (λ at. (at ≡ length (shown self.old)) × (x : Thing) × (meant (shown self.old) row ≡ Some x) × (shown self.new ≡ shown self.old ++ x ∷ [])) }
+        ensures ok { IfOk result (IsAdded (shown self.old) (shown self.new) (meant (shown self.old) row)) }
         ensures err { OnErr result (shown self.new ≡ shown self.old) }
     {
         let at = self.rows.len() as u64;
@@ -87,5 +91,31 @@ impl Maker for Store {
 
     fn ctx_nil(&mut self) -> Result<u64, AllocError> {
         Ok(self.add(Stored::CtxNil)?)
+    }
+}
+
+impl Reader for Store {
+    ghost use Rattle.std.specs.Prelude.{slice_get};
+    ghost use Rattle.replay.specs.Shown.{shown};
+
+    ghost means = { λ s. slice_get (shown s) };
+
+    fn tree(&self, row: u64) -> TreeRow {
+        match self.row(row) {
+            Stored::Make(op, kids) => TreeRow::Make(*op, widened(kids)),
+            Stored::CtxNil => unreachable!(),
+        }
+    }
+
+    /// No row of a store is a substitution.
+    fn subst(&self, _row: u64) -> SubstRow {
+        unreachable!()
+    }
+
+    fn context(&self, row: u64) -> ContextRow {
+        match self.row(row) {
+            Stored::CtxNil => ContextRow::Nil,
+            Stored::Make(_, _) => unreachable!(),
+        }
     }
 }

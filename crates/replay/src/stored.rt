@@ -1,14 +1,11 @@
 //! The rows of a store.
 
 ghost use Rattle.std.specs.Prelude.{◌≡◌, ◌≤◌, length, take, IfOk};
-ghost use Rattle.theory.specs.Operators.{kids_of};
 
 use crate::number::kept;
+use closures::MOST_KIDS;
 use std::alloc::AllocError;
-use theory::{Op, kid_count};
-
-/// The most kids that an operator has.
-pub const MOST_KIDS: usize = 4;
+use theory::Op;
 
 /// A row of a store. Its kids are earlier rows of the store.
 #[derive(Clone, Copy, Debug)]
@@ -42,12 +39,4 @@ pub fn widened(cells: &[u32; MOST_KIDS]) -> [u64; MOST_KIDS]
         u64::from(third),
         u64::from(fourth),
     ]
-}
-
-/// The kids of an operator among the cells.
-pub fn kids_in(op: Op, cells: &[u64; MOST_KIDS]) -> &[u64]
-    ensures kids { result.now ≡ take (kids_of op) cells.now }
-    ensures count { length result.now ≡ kids_of op }
-{
-    &cells[..kid_count(op) as usize]
 }

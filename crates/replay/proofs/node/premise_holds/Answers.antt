@@ -17,13 +17,13 @@ returns-in-Nothing-clause-holds c =
     let xs = shown c.args.store.now in
     no_node _ _ (premise_some c.args.rule (meanings (slice_get xs) c.args.rows.now) c.args.at c.requires.parts c.requires.within) (at_nothing xs c.args.entries.now c.args.premise (c.entry.ensures ∙ ap Some c.in-Nothing.is)).conclusion_is
 
-pub same_claim-requires-clause-live_left : goal.same_claim-requires-clause-live_left
-same_claim-requires-clause-live_left c =
+pub same_claim-requires-clause-left : goal.same_claim-requires-clause-left
+same_claim-requires-clause-left c =
     let xs = shown c.args.store.now in
     rw c.in_ok-wanted.ensures.claim (premise_some c.args.rule (meanings (slice_get xs) c.args.rows.now) c.args.at c.requires.parts c.requires.within)
 
-pub same_claim-requires-clause-live_right : goal.same_claim-requires-clause-live_right
-same_claim-requires-clause-live_right c =
+pub same_claim-requires-clause-right : goal.same_claim-requires-clause-right
+same_claim-requires-clause-right c =
     let xs = shown c.args.store.now in
     let live = live_node xs c.args.entries.now c.args.premise c.in-Node.claim c.requires.filed (c.entry.ensures ∙ ap Some c.in-Node.is) in
     rw (claimed-later (slice_get xs) (slice_get (shown c.wanted.new.maker)) c.wanted.ensures.kept c.in-Node.claim live) live

@@ -1,0 +1,10 @@
+pub mod TableLaws
+pub mod OptionLaws
+pub mod MemoryLaws
+pub mod EnvironmentLaws
+pub mod WeightLaws
+pub mod VariableLaws
+pub mod NodeLaws
+pub mod LookLaws
+pub mod HeadLaws
+pub mod SubstLaws

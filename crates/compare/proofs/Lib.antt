@@ -1,0 +1,13 @@
+pub mod PairLaws
+pub mod StandLaws
+pub mod KidLaws
+pub mod KidStep
+pub mod OpenLaws
+pub mod WalkLaws
+pub mod AgreeLaws
+pub mod AskLaws
+pub mod AskingLaws
+pub mod SubstAskLaws
+pub mod ContextLaws
+pub mod ClaimLaws
+pub mod ClaimAskLaws

@@ -1,0 +1,15 @@
+use Rattle.std.proofs.Common.{◌≡◌}
+use Rattle.closures.specs.Shown.{lists}
+use Rattle.closures.specs.Substs.{subst_closure_meaning}
+use Rattle.compare.proofs.SubstAskLaws.{Substs, trees_in}
+use Rattle.compare.proofs.comparison.Comparison.ask_substs.Given as goal
+
+-- two closures are left to compare
+abbrev pub invariant-loop-first : goal.invariant-loop-first
+invariant-loop-first g l =
+    let f = g.R.Reader.means l.rows in
+    Substs f (lists l.fn.self.environments) (f l.fn.left ≡ f l.fn.right) l.fn.self.pairs.keys (lists l.self.environments) l.left l.right l.self.pairs.keys
+
+-- the trees of the left one
+abbrev pub decreases-loop-first : goal.decreases-loop-first
+decreases-loop-first g l = trees_in (subst_closure_meaning (g.R.Reader.means l.rows) (lists l.self.environments) l.left)
