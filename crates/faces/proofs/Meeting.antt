@@ -1,6 +1,7 @@
 -- How the meet of two faces is made, merge by merge.
-use Rattle.std.proofs.Common.{◌≡◌, ℕ, ◌<◌, ◌≤◌, ◌+◌, ◌⊎◌, inl, inr, ⊎_elim, true, false, ◌&&◌, List, [], ◌∷◌, ◌++◌, length, take, get_or, sym, ◌∙◌, ap, subst}
+use Rattle.std.proofs.Common.{◌≡◌, ℕ, ◌<◌, ◌≤◌, ◌+◌, ◌⊎◌, inl, inr, ⊎_elim, true, false, ◌&&◌, List, [], ◌∷◌, ◌++◌, length, take, get_or, sym, ◌∙◌, ap, subst, Option, Some, None}
 use Rattle.std.specs.List.{All, Any, Contains}
+use Rattle.std.specs.Option.{is_some, MatchOption}
 use Rattle.std.proofs.lemmas.Bool.{and_parts, and_from, or_cases, or_left, both_ways, false≢true}
 use Rattle.std.proofs.lemmas.List.{take_all}
 use Rattle.std.proofs.lemmas.List.Elements.{All-nil, All-push, Contains-append_left, Contains-push, Contains-push_cases}
@@ -12,9 +13,9 @@ use Rattle.points.specs.Points.{Point}
 use Rattle.faces.specs.declared.equations.Equation.{Equation}
 use Rattle.faces.specs.Equations.{opposite, equation_truth}
 use Rattle.faces.specs.Faces.{conj_truth, face_truth, IsConsistent}
-use Rattle.faces.specs.Meets.{ImpliesTogether, IsOutside, IsMergeOutside, IsMeetOutside}
+use Rattle.faces.specs.Meets.{ImpliesTogether, CoversMeet, IsOutside, IsMergeOutside, IsMeetOutside}
 use Rattle.faces.proofs.Coordinates.{same_or_opposite, never_both}
-use Rattle.faces.proofs.OwnPoints.{true_within, face_from, face_has}
+use Rattle.faces.proofs.OwnPoints.{own_point, true_at_own_point, within_own_point, true_within, face_from, face_has}
 
 pub union_truth : (c d both : List Equation) → IsUnion c d both → (x : Point) → conj_truth both x ≡ (conj_truth c x && conj_truth d x)
 union_truth c d both u x = list_all-union (λ e. equation_truth e x) c d both u
@@ -180,3 +181,20 @@ met_whole excluded left right face never m x =
     (λ h.
     let both = and_parts (face_truth left x) (face_truth right x) h in
     ⊎_elim (λ t. t) (λ t. absurd (both_ways (face_truth excluded x) (never x) t)) (m.whole x both.0 both.1))
+
+-- where no merge is left, the face is true wherever both others are
+pub covers_at_end : (face left right : List (List Equation)) → AreEnough face left right [] → CoversMeet face left right
+covers_at_end face left right p x h k = ⊎_elim (λ t. absurd (false≢true t)) (λ t. t) (p.whole x h k)
+
+pub implied_by_none : (c d : List Equation) (face : List (List Equation)) (merge : Option (List Equation)) → MatchOption merge (ImpliesTogether c d face) (IsMergeOutside face c d) → is_some merge ≡ false → ImpliesTogether c d face
+implied_by_none c d face None m e = m
+implied_by_none c d face (Some both) m e = absurd (false≢true (sym e))
+
+-- a merge is true at its own point, where the face that it does not imply is not
+pub never_covers : (face left right : List (List Equation)) (c d : List Equation) (merge : Option (List Equation)) → Contains left c → Contains right d → MatchOption merge (ImpliesTogether c d face) (IsMergeOutside face c d) → is_some merge ≡ true → CoversMeet face left right → ⊥
+never_covers face left right c d None in_c in_d m e covers = absurd (false≢true e)
+never_covers face left right c d (Some both) in_c in_d m e covers =
+    let x : Point = own_point both in
+    let parts = and_parts (conj_truth c x) (conj_truth d x) (sym (union_truth c d both m.union x) ∙ true_at_own_point both m.consistent) in
+    let found = face_has face x (covers x (face_from left c x in_c parts.0) (face_from right d x in_d parts.1)) in
+    m.outside found.0 found.1 (within_own_point both found.0 found.2)

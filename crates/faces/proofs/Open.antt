@@ -1,47 +1,43 @@
 -- Faces met one after the other, without what implies a goal.
-use Rattle.std.proofs.Common.{◌≡◌, ℕ, ◌<◌, ◌+◌, ◌↔◌, ◌⊎◌, inr, ⊎_elim, Bool, true, List, [], ◌∷◌, ◌++◌, length, take, get_or, refl, sym, ◌∙◌, ap, subst, IsTrue}
-use Rattle.std.specs.List.{All, Contains}
+use Rattle.std.proofs.Common.{◌≡◌, ℕ, ◌<◌, ◌+◌, ◌↔◌, ◌⊎◌, inl, inr, ⊎_elim, Bool, true, List, [], ◌∷◌, ◌++◌, length, take, get_or, refl, sym, ◌∙◌, ap, subst, IsTrue, arith}
+use Rattle.std.specs.List.{All}
 use Rattle.std.proofs.lemmas.Bool.{false≢true}
 use Rattle.std.proofs.lemmas.List.{take_more}
-use Rattle.std.proofs.lemmas.List.Elements.{All-nil, All-more, All-take, All-contains, Contains-append_left, Contains-push}
-use Rattle.antichains.proofs.Members.{Contains-head, All-from_contains}
+use Rattle.std.proofs.lemmas.List.Elements.{All-nil, All-more, All-push, All-take, All-contains, Contains-append_left, Contains-push}
+use Rattle.antichains.proofs.Members.{All-from_contains}
 use Rattle.points.specs.Points.{Point}
 use Rattle.faces.specs.declared.equations.Equation.{Equation}
-use Rattle.faces.specs.Faces.{face_truth, HoldsUnder, IsConsistent}
-use Rattle.faces.specs.Meets.{IsMeetOutside}
-use Rattle.faces.proofs.OwnPoints.{own_point, true_at_own_point, within_own_point, face_from, face_has}
+use Rattle.faces.specs.Faces.{face_truth, HoldsUnder}
+use Rattle.faces.specs.Meets.{CoversMeet, IsMeetOutside}
 
 -- all the faces are true at a point
 abbrev AreTrue : List (List (List Equation)) → Point → Type 0
 AreTrue faces x = All (λ face. IsTrue (face_truth face x)) faces
 
--- where all the faces are true, one is that is front, or the goal; and what is front does not imply the goal
+-- where all the faces are true, one is that is front, or the goal
 pub record IsOpen (goal front : List (List Equation)) (faces : List (List (List Equation))) : Type 0 where
   pub within : (x : Point) → face_truth front x ≡ true → AreTrue faces x
   pub whole : (x : Point) → AreTrue faces x → (face_truth front x ≡ true) ⊎ (face_truth goal x ≡ true)
-  pub apart : (conj : List Equation) → Contains front conj → face_truth goal (own_point conj) ≡ true → ⊥
 
-apart_from_outside : (goal left right front : List (List Equation)) → IsMeetOutside goal left right front → (conj : List Equation) → Contains front conj → face_truth goal (own_point conj) ≡ true → ⊥
-apart_from_outside goal left right front m conj c h =
-    let found = face_has goal (own_point conj) h in
-    m.outside conj c found.0 found.1 (within_own_point conj found.0 found.2)
-
-pub open_first : (goal top front : List (List Equation)) → ((x : Point) → face_truth top x ≡ true) → IsMeetOutside goal top top front → IsOpen goal front []
-open_first goal top front everywhere m = record {
+pub open_first : (goal top : List (List Equation)) → ((x : Point) → face_truth top x ≡ true) → IsOpen goal top []
+open_first goal top everywhere = record {
   within = λ x h. All-nil (λ face. IsTrue (face_truth face x));
-  whole = λ x h. m.whole x (everywhere x) (everywhere x);
-  apart = apart_from_outside goal top top front m;
+  whole = λ x h. inl (everywhere x);
 }
+
+-- of all the faces, those before the last one and that one
+before_last : (P : List (List Equation) → Type 0) (faces others : List (List (List Equation))) (last : List (List Equation)) → faces ≡ others ++ last ∷ [] → All P faces → All P others × P last
+before_last P faces others last e all =
+    let Each : List (List (List Equation)) → Type 0 = λ z. All P z in
+    let pushed : All P (others ++ last ∷ []) = subst Each e all in (
+      All-from_contains P others (λ f c. All-contains P (others ++ last ∷ []) f pushed (Contains-append_left others (last ∷ []) f c)),
+      All-contains P (others ++ last ∷ []) last pushed (Contains-push others last),
+    )
 
 -- of one face more, those before and that one
 fewer : (P : List (List Equation) → Type 0) (faces : List (List (List Equation))) (i : ℕ) (face : List (List Equation)) → i < length faces → face ≡ get_or faces i face → All P (take (i + 1) faces) → All P (take i faces) × P face
 fewer P faces i face l e all =
-    let Each : List (List (List Equation)) → Type 0 = λ z. All P z in
-    let pushed : All P (take i faces ++ get_or faces i face ∷ []) = subst Each (take_more faces i face l) all in (
-      All-from_contains P (take i faces)
-          (λ f c. All-contains P (take i faces ++ get_or faces i face ∷ []) f pushed (Contains-append_left (take i faces) (get_or faces i face ∷ []) f c)),
-      subst P (sym e) (All-contains P (take i faces ++ get_or faces i face ∷ []) (get_or faces i face) pushed (Contains-push (take i faces) (get_or faces i face))),
-    )
+    let both = before_last P (take (i + 1) faces) (take i faces) (get_or faces i face) (take_more faces i face l) all in (both.0, subst P (sym e) both.1)
 
 pub open_more : (goal front new : List (List Equation)) (faces : List (List (List Equation))) (i : ℕ) (face : List (List Equation)) → i < length faces → face ≡ get_or faces i face → IsOpen goal front (take i faces) → IsMeetOutside goal front face new → IsOpen goal new (take (i + 1) faces)
 open_more goal front new faces i face l e p m = record {
@@ -51,28 +47,40 @@ open_more goal front new faces i face l e p m = record {
   whole = λ x h.
       let both = fewer (λ f. IsTrue (face_truth f x)) faces i face l e h in
       ⊎_elim (λ t. m.whole x t both.1) (λ t. inr t) (p.whole x both.0);
-  apart = apart_from_outside goal front face new m;
 }
 
 nothing_true : (front : List (List Equation)) (x : Point) → front ≡ [] → face_truth front x ≡ true → ⊥
 nothing_true front x e h = false≢true (ap (λ face. face_truth face x) (sym e) ∙ h)
 
 -- nothing is front before all the faces were met
-pub holds_early : (goal front : List (List Equation)) (faces : List (List (List Equation))) (i : ℕ) → IsOpen goal front (take i faces) → front ≡ [] → IsTrue true ↔ HoldsUnder faces goal
-holds_early goal front faces i p e =
-    (λ h x all. ⊎_elim (λ t. absurd (nothing_true front x e t)) (λ t. t) (p.whole x (All-take (λ f. IsTrue (face_truth f x)) i faces all)), λ h. refl)
+pub holds_early : (goal front last : List (List Equation)) (faces others : List (List (List Equation))) (i : ℕ) → faces ≡ others ++ last ∷ [] → IsOpen goal front (take i others) → front ≡ [] → IsTrue true ↔ HoldsUnder faces goal
+holds_early goal front last faces others i e p none = (
+  λ h x all.
+      let True : List (List Equation) → Type 0 = λ face. IsTrue (face_truth face x) in
+      let both = before_last True faces others last e all in
+      ⊎_elim (λ t. absurd (nothing_true front x none t)) (λ t. t) (p.whole x (All-take True i others both.0)),
+  λ h. refl,
+)
 
--- an front conjunction is true at its own point, where the goal is not
-none_open : (goal front : List (List Equation)) (faces : List (List (List Equation))) → IsOpen goal front faces → All IsConsistent front → HoldsUnder faces goal → front ≡ []
-none_open goal [] faces p k h = refl
-none_open goal (conj ∷ rest) faces p k h =
-    let here = Contains-head conj rest in
-    let own = true_at_own_point conj (All-contains IsConsistent (conj ∷ rest) conj k here) in
-    let x : Point = own_point conj in
-    absurd (p.apart conj here (h x (p.within x (face_from (conj ∷ rest) conj x here own))))
+-- of the last face it is enough to know whether the goal is true where it and what is front are
+pub holds_at_last : (goal front last : List (List Equation)) (faces others : List (List (List Equation))) (r : Bool) → faces ≡ others ++ last ∷ [] → IsOpen goal front others → IsTrue r ↔ CoversMeet goal front last → IsTrue r ↔ HoldsUnder faces goal
+holds_at_last goal front last faces others r e p covers = (
+  λ h x all.
+      let both = before_last (λ face. IsTrue (face_truth face x)) faces others last e all in
+      ⊎_elim (λ t. covers.0 h x t both.1) (λ t. t) (p.whole x both.0),
+  λ h.
+      covers.1
+      (λ x t k.
+      let True : List (List (List Equation)) → Type 0 = λ z. AreTrue z x in
+      h x (subst True (sym e) (All-push (λ face. IsTrue (face_truth face x)) others last (p.within x t) k))),
+)
 
-pub holds_at_end : (goal front : List (List Equation)) (faces : List (List (List Equation))) (r : Bool) → IsOpen goal front faces → All IsConsistent front → IsTrue r ↔ (front ≡ []) → IsTrue r ↔ HoldsUnder faces goal
-holds_at_end goal front faces r p k empty = (
-  λ h x all. ⊎_elim (λ t. absurd (nothing_true front x (empty.0 h) t)) (λ t. t) (p.whole x all),
-  λ h. empty.1 (none_open goal front faces p k h),
+all_of_none : (P : List (List Equation) → Type 0) (faces : List (List (List Equation))) → length faces ≡ 0 → All P faces
+all_of_none P [] e = All-nil P
+all_of_none P (face ∷ rest) e = absurd (omega arith)
+
+pub holds_under_none : (goal top : List (List Equation)) (faces : List (List (List Equation))) (r : Bool) → length faces ≡ 0 → ((x : Point) → face_truth top x ≡ true) → IsTrue r ↔ CoversMeet goal top top → IsTrue r ↔ HoldsUnder faces goal
+holds_under_none goal top faces r e everywhere covers = (
+  λ h x all. covers.0 h x (everywhere x) (everywhere x),
+  λ h. covers.1 (λ x t k. h x (all_of_none (λ face. IsTrue (face_truth face x)) faces e)),
 )

@@ -9,6 +9,10 @@ use Rattle.faces.specs.Faces.{conj_truth, face_truth, IsConsistent}
 abbrev pub ImpliesTogether : List Equation → List Equation → List (List Equation) → Type 0
 ImpliesTogether c d face = (x : Point) → IsTrue (conj_truth c x) → IsTrue (conj_truth d x) → IsTrue (face_truth face x)
 
+-- the first face is true wherever both others are
+abbrev pub CoversMeet : List (List Equation) → List (List Equation) → List (List Equation) → Type 0
+CoversMeet face left right = (x : Point) → IsTrue (face_truth left x) → IsTrue (face_truth right x) → IsTrue (face_truth face x)
+
 -- no conjunction of the face is within this one
 abbrev pub IsOutside : List (List Equation) → List Equation → Type 0
 IsOutside face conj = (part : List Equation) → Contains face part → IsWithin part conj → ⊥

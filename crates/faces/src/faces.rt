@@ -7,7 +7,7 @@ ghost use Rattle.points.specs.Points.{Point, with_free, with_end, valuation_of};
 ghost use Rattle.interval.specs.Forms.{product_value, form_value};
 ghost use Rattle.faces.specs.Equations.{equation_cmp, equals_end, opposite};
 ghost use Rattle.faces.specs.Faces.{conj_truth, face_truth, HoldsUnder, IsConsistent, HasRisingNames, IsIrredundant, LacksName};
-ghost use Rattle.faces.specs.Meets.{ImpliesTogether, IsMergeOutside, IsMeetOutside};
+ghost use Rattle.faces.specs.Meets.{ImpliesTogether, CoversMeet, IsMergeOutside, IsMeetOutside};
 
 use crate::equations::Equation;
 use antichains::Antichain;
@@ -122,19 +122,21 @@ impl Face {
     }
 
     /// Whether this face is true wherever all the given ones are. It meets the given faces one after the other and goes on
-    /// with the conjunctions that do not imply this face yet.
+    /// with the conjunctions that do not imply this face yet; of the last one it only asks whether any is left.
     pub fn holds_under(&self, given: &[Face]) -> Result<bool, AllocError>
         ensures { IfOk result (λ holds. IsTrue holds ↔ HoldsUnder given.now self.now) }
     {
-        let everywhere = Face::top(self.alloc())?;
-        let mut open = everywhere.meet_outside(&everywhere, self)?;
-        for face in given {
+        let mut open = Face::top(self.alloc())?;
+        let Some((last, others)) = given.split_last() else {
+            return self.covers_meet(&open, &open);
+        };
+        for face in others {
             if open.is_nowhere() {
                 return Ok(true);
             }
             open = open.meet_outside(face, self)?;
         }
-        Ok(open.is_nowhere())
+        self.covers_meet(&open, last)
     }
 }
 
@@ -198,6 +200,20 @@ impl Face {
             }
         }
         Face::from_conjs(conjs)
+    }
+
+    /// Whether this face is true wherever the two are. A no comes at the first merge that does not imply it.
+    fn covers_meet(&self, left: &Face, right: &Face) -> Result<bool, AllocError>
+        ensures { IfOk result (λ covers. IsTrue covers ↔ CoversMeet self.now left.now right.now) }
+    {
+        for first in left.conjs.products() {
+            for second in right.conjs.products() {
+                if merge_outside(first, second, self)?.is_some() {
+                    return Ok(false);
+                }
+            }
+        }
+        Ok(true)
     }
 
     /// Whether the face is true wherever the conjunction is.
