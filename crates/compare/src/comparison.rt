@@ -100,12 +100,9 @@ impl Comparison {
         ensures yes { IfOk result (λ same. same ≡ true → Asks (R.means rows.now) (lists self.new.environments) (R.means rows.now left ≡ R.means rows.now right) self.old.pairs.keys self.new.pairs.keys) }
         ensures no { IfOk result (λ same. same ≡ false → R.means rows.now left ≡ R.means rows.now right → ⊥) }
     {
-        if left == right {
-            return Ok(true);
-        }
         let mut left = SubstClosure::of_row(left);
         let mut right = SubstClosure::of_row(right);
-        loop {
+        while left != right {
             let first = subst_head(rows, &mut self.environments, left)?;
             let second = subst_head(rows, &mut self.environments, right)?;
             match (first, second) {
@@ -118,6 +115,7 @@ impl Comparison {
                 _ => return Ok(false),
             }
         }
+        Ok(true)
     }
 
     /// Asks whether two rows of a kind mean the same. The answer is no where they differ outermost.

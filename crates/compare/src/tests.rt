@@ -142,6 +142,28 @@ fn folded(rt: &impl Abort, rows: &mut MemRows, op: Op, leaf: Row, times: u32) ->
     Ok(tree)
 }
 
+/// A tree over instances of two trees by one substitution, which both stand over the tree before.
+fn crossed(rt: &impl Abort, rows: &mut MemRows, times: u32) -> Result<u64, Fail> {
+    let subst = add(rt, rows, shift(0))?;
+    let mut tree = add(rt, rows, make(Op::Zero, [0; MOST_KIDS]))?;
+    for _ in 0..times {
+        let suc = add(rt, rows, make(Op::Suc, [tree, 0, 0, 0]))?;
+        let fst = add(rt, rows, make(Op::Fst, [tree, 0, 0, 0]))?;
+        let left = add(rt, rows, instance(suc, subst))?;
+        let right = add(rt, rows, instance(fst, subst))?;
+        tree = add(rt, rows, make(Op::App, [left, right, 0, 0]))?;
+    }
+    Ok(tree)
+}
+
+#[test]
+fn equal_environments_are_kept_once(rt: HostRuntime) -> Result<(), Fail> {
+    let mut rows = MemRows::new(rt.alloc());
+    let tree = crossed(&rt, &mut rows, 40)?;
+    let again = crossed(&rt, &mut rows, 40)?;
+    assert_trees(&rt, rt.alloc(), &rows, (tree, again), true)
+}
+
 #[test]
 fn shared_trees_are_compared_in_the_time_of_what_is_shared(rt: HostRuntime) -> Result<(), Fail> {
     let mut rows = MemRows::new(rt.alloc());
