@@ -3,8 +3,8 @@
 
 usage: python3 bench/library.py NAME
 
-The program's text is bench/timing/NAME.txt; it may use each crate that crates.txt lists. It is proved safe like any other
-program of the repository, built, and run; what it prints is printed.
+The program's text is bench/timing/NAME.txt; it may use each crate that crates.txt lists, or names as used by one. It is
+proved safe like any other program of the repository, built, and run; what it prints is printed.
 """
 
 import os
@@ -20,8 +20,10 @@ PROGRAM = "timing"
 
 
 def listed(lines):
-    """The names of the crates that the lines of crates.txt list."""
-    return [line.split(":")[0].split()[0] for line in lines if ":" in line.split("#")[0]]
+    """The names of the crates that the lines of crates.txt list, and of those that they use."""
+    plain = [line.split("#")[0] for line in lines]
+    crates = [(line.split(":")[0].split()[0], line.split(":")[1].split()) for line in plain if ":" in line]
+    return sorted({name for crate, uses in crates for name in [crate, *uses]})
 
 
 def used(text, names):

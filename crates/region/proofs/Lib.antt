@@ -1,0 +1,4 @@
+pub mod TableLaws
+pub mod SlotLaws
+pub mod LayoutLaws
+pub mod RegionLaws

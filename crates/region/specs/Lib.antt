@@ -1,0 +1,7 @@
+pub mod Hashes
+pub mod Tables
+pub mod Slots
+pub mod Layouts
+pub mod Stored
+pub mod Held
+pub mod Interned
