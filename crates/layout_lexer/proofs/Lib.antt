@@ -1,0 +1,12 @@
+pub mod Runs
+pub mod Longest
+pub mod Starts
+pub mod Movement
+pub mod Comments
+pub mod PieceLaws
+pub mod ReadingLaws
+pub mod WordLaws
+pub mod LayoutLaws
+pub mod ScanLaws
+pub mod TextLaws
+pub mod SliceLaws

@@ -1,0 +1,25 @@
+//! The tokens of a module's text, with the marks that its layout stands for.
+//!
+//! Two passes, each with a definition of its own: a scanner cuts the text in pieces, each the longest that the rest begins
+//! with, and layout sets marks between the tokens.
+#![tactic(auto)]
+
+mod blocks;
+mod cursor;
+mod fault;
+mod layout;
+mod lexer;
+mod pieces;
+mod scanner;
+mod text;
+mod token;
+mod words;
+
+pub use fault::LexFault;
+pub use lexer::{MAX_LEN, tokens};
+pub use text::Text;
+pub use token::{Kind, Span, Spans, Token, Tokens};
+pub use words::spelling;
+
+#[cfg(test)]
+mod tests;
