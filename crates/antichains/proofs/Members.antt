@@ -20,6 +20,6 @@ Contains-cons_cases y xs x (suc k, l, e) = inr (k, omega arith, e)
 pub All-from_contains : {X : Type 0} (P : X → Type 0) (xs : List X) → ((x : X) → Contains xs x → P x) → All P xs
 All-from_contains P xs h k d l = h (get_or xs k d) (Contains-get_or xs k d l)
 
--- an element that was read at a place stands in front of what follows it
+-- an element that was read at a place stands before what follows it
 pub rest_at : {X : Type 0} (xs : List X) (i : ℕ) (x : X) → i < length xs → x ≡ get_or xs i x → drop i xs ≡ x ∷ drop (i + 1) xs
 rest_at xs i x l e = drop_more xs i x l ∙ ap (λ z. z ∷ drop (i + 1) xs) (sym e)

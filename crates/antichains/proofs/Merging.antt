@@ -9,7 +9,7 @@ use Rattle.antichains.specs.Antichains.{IsWithin, IsUnion}
 use Rattle.antichains.proofs.Within.{IsWithin-refl, IsWithin-head, IsWithin-tail}
 use Rattle.antichains.proofs.Members.{Contains-head, Contains-none, Contains-cons_cases, rest_at}
 use Rattle.antichains.proofs.Exact.{IsExactOrder}
-use Rattle.antichains.proofs.Ordered.{sorted_append, sorted_front, sorted_back, sorted_across, sorted_cons, above_all}
+use Rattle.antichains.proofs.Ordered.{sorted_append, sorted_prefix, sorted_suffix, sorted_across, sorted_cons, above_all}
 
 -- xs and ys are merged into done, but for the rests of both
 pub record IsMerging {X : Type 0} (R : X → X → Ordering) (xs ys done rest more : List X) : Type 0 where
@@ -61,9 +61,9 @@ module _ {X : Type 0} {R : X → X → Ordering} (o : IsExactOrder R) where
   -- what is done takes an element below all that is left
   before_both : (done : List X) (x y : X) (rest more : List X) → R x y ≡ Less → IsStrictlySortedBy R (done ++ x ∷ rest) → IsStrictlySortedBy R (done ++ y ∷ more) → IsStrictlySortedBy R ((done ++ x ∷ []) ++ y ∷ more)
   before_both done x y rest more l s t =
-      let back = sorted_back R done (y ∷ more) t in
+      let back = sorted_suffix R done (y ∷ more) t in
       rw append_assoc
-      (sorted_append R done (x ∷ y ∷ more) (sorted_front R done (x ∷ rest) s)
+      (sorted_append R done (x ∷ y ∷ more) (sorted_prefix R done (x ∷ rest) s)
       (sorted_cons R x (y ∷ more) (above_all o.total x y more l back) back)
       (λ z w c d.
       ⊎_elim

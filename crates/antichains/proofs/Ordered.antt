@@ -41,15 +41,15 @@ sorted_append R (x ∷ xs) ys sx sy h =
     c)
     (sorted_append R xs ys (sorted_rest R x xs sx) sy (λ z y c d. h z y (Contains-rest x xs z c) d))
 
-pub sorted_front : {X : Type 0} (R : X → X → Ordering) (xs ys : List X) → IsStrictlySortedBy R (xs ++ ys) → IsStrictlySortedBy R xs
-sorted_front R [] ys s = sorted_nil R
-sorted_front R (x ∷ xs) ys s =
+pub sorted_prefix : {X : Type 0} (R : X → X → Ordering) (xs ys : List X) → IsStrictlySortedBy R (xs ++ ys) → IsStrictlySortedBy R xs
+sorted_prefix R [] ys s = sorted_nil R
+sorted_prefix R (x ∷ xs) ys s =
     sorted_cons R x xs (λ y c. sorted_head R x (xs ++ ys) s y (Contains-append_left xs ys y c))
-    (sorted_front R xs ys (sorted_rest R x (xs ++ ys) s))
+    (sorted_prefix R xs ys (sorted_rest R x (xs ++ ys) s))
 
-pub sorted_back : {X : Type 0} (R : X → X → Ordering) (xs ys : List X) → IsStrictlySortedBy R (xs ++ ys) → IsStrictlySortedBy R ys
-sorted_back R [] ys s = s
-sorted_back R (x ∷ xs) ys s = sorted_back R xs ys (sorted_rest R x (xs ++ ys) s)
+pub sorted_suffix : {X : Type 0} (R : X → X → Ordering) (xs ys : List X) → IsStrictlySortedBy R (xs ++ ys) → IsStrictlySortedBy R ys
+sorted_suffix R [] ys s = s
+sorted_suffix R (x ∷ xs) ys s = sorted_suffix R xs ys (sorted_rest R x (xs ++ ys) s)
 
 pub sorted_across : {X : Type 0} (R : X → X → Ordering) (xs ys : List X) → IsStrictlySortedBy R (xs ++ ys) → (x y : X) → Contains xs x → Contains ys y → R x y ≡ Less
 sorted_across R [] ys s x y c d = absurd (Contains-none x c)
@@ -79,7 +79,7 @@ module _ {X : Type 0} {R : X → X → Ordering} (o : IsTotalOrder R) where
     pub short : length xs ≤ length ys
     pub full : length ys ≤ length xs → xs ≡ ys
 
-  -- what a list has in a longer one it has behind that one's head, if all of it is above the head
+  -- what a list has in a longer one it has after that one's head, if all of it is above the head
   pub within_rest : (y : X) (ys xs : List X) → ((z : X) → Contains xs z → R y z ≡ Less) → IsWithin xs (y ∷ ys) → IsWithin xs ys
   within_rest y ys xs above w =
       record {

@@ -14,7 +14,7 @@ use Rattle.antichains.specs.Antichains.{IsWithout}
 use Rattle.antichains.proofs.Within.{IsWithin-refl}
 use Rattle.antichains.proofs.Members.{Contains-head, Contains-rest, Contains-cons_cases}
 use Rattle.antichains.proofs.Exact.{IsExactOrder}
-use Rattle.antichains.proofs.Ordered.{sorted_append, sorted_front, sorted_back, sorted_across, sorted_head, sorted_rest, never_below_itself}
+use Rattle.antichains.proofs.Ordered.{sorted_append, sorted_prefix, sorted_suffix, sorted_across, sorted_head, sorted_rest, never_below_itself}
 
 not_lt : (a b : Ordering) → a ≡ ordering_reverse b → b ≡ Less → is_lt a ≡ false
 not_lt a b e h = rw (e, h) refl
@@ -46,34 +46,34 @@ module _ {X : Type 0} {R : X → X → Ordering} (o : IsExactOrder R) where
   searched xs x (Err i) s range found = (λ h. cc, λ c. absurd (not_found xs x i s found c))
 
   -- one element is taken out of the middle
-  pub sorted_without : (front : List X) (x : X) (back : List X) → IsStrictlySortedBy R (front ++ x ∷ back) → IsStrictlySortedBy R (front ++ back)
-  sorted_without front x back s =
-      sorted_append R front back (sorted_front R front (x ∷ back) s) (sorted_rest R x back (sorted_back R front (x ∷ back) s))
-      (λ y z c d. sorted_across R front (x ∷ back) s y z c (Contains-rest x back z d))
+  pub sorted_without : (before : List X) (x : X) (after : List X) → IsStrictlySortedBy R (before ++ x ∷ after) → IsStrictlySortedBy R (before ++ after)
+  sorted_without before x after s =
+      sorted_append R before after (sorted_prefix R before (x ∷ after) s) (sorted_rest R x after (sorted_suffix R before (x ∷ after) s))
+      (λ y z c d. sorted_across R before (x ∷ after) s y z c (Contains-rest x after z d))
 
-  pub without_middle : (front : List X) (x : X) (back : List X) → IsStrictlySortedBy R (front ++ x ∷ back) → IsWithout (front ++ x ∷ back) x (front ++ back)
-  without_middle front x back s = record {
+  pub without_middle : (before : List X) (x : X) (after : List X) → IsStrictlySortedBy R (before ++ x ∷ after) → IsWithout (before ++ x ∷ after) x (before ++ after)
+  without_middle before x after s = record {
     from = record {
       each = λ y c.
           ⊎_elim
-          (Contains-append_left front (x ∷ back) y)
-          (λ d. Contains-append_right front (x ∷ back) y (Contains-rest x back y d))
-          (Contains-append_cases front back y c);
+          (Contains-append_left before (x ∷ after) y)
+          (λ d. Contains-append_right before (x ∷ after) y (Contains-rest x after y d))
+          (Contains-append_cases before after y c);
     };
     kept = λ y c apart.
         ⊎_elim
-        (Contains-append_left front back y)
+        (Contains-append_left before after y)
         (λ d.
         ⊎_elim
         (λ e. absurd (apart (sym e)))
-        (Contains-append_right front back y)
-        (Contains-cons_cases x back y d))
-        (Contains-append_cases front (x ∷ back) y c);
+        (Contains-append_right before after y)
+        (Contains-cons_cases x after y d))
+        (Contains-append_cases before (x ∷ after) y c);
     gone = λ c.
         ⊎_elim
-        (λ d. never_below_itself o.total x (sorted_across R front (x ∷ back) s x x d (Contains-head x back)))
-        (λ d. never_below_itself o.total x (sorted_head R x back (sorted_back R front (x ∷ back) s) x d))
-        (Contains-append_cases front back x c);
+        (λ d. never_below_itself o.total x (sorted_across R before (x ∷ after) s x x d (Contains-head x after)))
+        (λ d. never_below_itself o.total x (sorted_head R x after (sorted_suffix R before (x ∷ after) s) x d))
+        (Contains-append_cases before after x c);
   }
 
   split_at : (xs : List X) (x : X) (i : ℕ) → i < length xs → get_or xs i x ≡ x → xs ≡ take i xs ++ x ∷ drop (suc i) xs
@@ -84,12 +84,12 @@ module _ {X : Type 0} {R : X → X → Ordering} (o : IsExactOrder R) where
   pub removed : (xs : List X) (x : X) (i : ℕ) → i < length xs → ((d : X) → R (get_or xs i d) x ≡ Equal) → IsStrictlySortedBy R xs → IsStrictlySortedBy R (remove xs i) × IsWithout xs x (remove xs i)
   removed xs x i l h s =
       let split = split_at xs x i l (found_at xs x i l h) in
-      let front : List X = take i xs in
-      let back : List X = drop (suc i) xs in
+      let before : List X = take i xs in
+      let after : List X = drop (suc i) xs in
       let Sorted : List X → Type 0 = λ ys. IsStrictlySortedBy R ys in
       let whole = subst Sorted split s in
-      let Without : List X → Type 0 = λ ys. IsWithout ys x (front ++ back) in
-      (sorted_without front x back whole, subst Without (sym split) (without_middle front x back whole))
+      let Without : List X → Type 0 = λ ys. IsWithout ys x (before ++ after) in
+      (sorted_without before x after whole, subst Without (sym split) (without_middle before x after whole))
 
   pub not_removed : (xs : List X) (x : X) → (Contains xs x → ⊥) → IsWithout xs x xs
   not_removed xs x none = record {

@@ -1,2 +1,3 @@
 pub mod Antichains
 pub mod Reductions
+pub mod Stacks

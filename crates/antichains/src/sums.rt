@@ -69,8 +69,10 @@ impl<T: Element> Antichain<T> {
 
     /// The sum of the products of both.
     pub fn join(&self, other: &Antichain<T>) -> Result<Antichain<T>, AllocError>
-        ensures among { IfOk result (λ sum. (product : List T) → Contains sum product → Contains self.now product ⊎ Contains other.now product) }
-        ensures truth { IfOk result (λ sum. (test : T → Bool) → some_all test sum ≡ (some_all test self.now || some_all test other.now)) }
+        ensures among { IfOk result (λ sum. (product : List T) → Contains sum product →
+            Contains self.now product ⊎ Contains other.now product) }
+        ensures truth { IfOk result (λ sum. (test : T → Bool) →
+            some_all test sum ≡ (some_all test self.now || some_all test other.now)) }
     {
         let mut products = self.products.clone()?;
         products.extend_from_slice(other.products())?;
@@ -79,7 +81,8 @@ impl<T: Element> Antichain<T> {
 
     /// The sum of the products of one of each: at m and n products m * n merges, and one normal form.
     pub fn meet(&self, other: &Antichain<T>) -> Result<Antichain<T>, AllocError>
-        ensures { IfOk result (λ sum. (test : T → Bool) → some_all test sum ≡ (some_all test self.now && some_all test other.now)) }
+        ensures { IfOk result (λ sum. (test : T → Bool) →
+            some_all test sum ≡ (some_all test self.now && some_all test other.now)) }
     {
         let mut products = Vec::new(self.alloc());
         for left in &self.products {

@@ -7,24 +7,24 @@ use Rattle.std.proofs.lemmas.List.{get_or-take, get_or_append_left}
 use Rattle.std.proofs.lemmas.Option.{get_or_from_slice_get, slice_get_within, slice_get_cases}
 use Rattle.std.proofs.lemmas.Bool.Decides.{nat_tests}
 use Rattle.indexmap.specs.IndexSet.{insert_key}
-use Rattle.closures.specs.Tables.{Grows}
+use Rattle.rows.specs.Tables.{Grows}
 use Rattle.closures.specs.Environments.{Waiting, waiting, deepened, listed, node_list, lists_of, is_before, IsWithin, all_earlier_from, AllEarlier}
 use Rattle.closures.specs.declared.environments.Node.{Node}
 use Rattle.closures.specs.declared.environments.Environment.{Environment}
 use Rattle.closures.specs.declared.environments.Environment.TheVariants as env
-use Rattle.closures.proofs.TableLaws.{length-built, built-push, built-at, grows-same}
+use Rattle.rows.proofs.TableLaws.{length-built, built-push, built-at, grows-same}
 
 -- under more binders
 
 pub deepened-zero : (ws : List Waiting) → deepened 0 ws ≡ ws
 deepened-zero [] = refl
-deepened-zero (w ∷ ws) = ap₂ (λ n rest. waiting n w.step ∷ rest) (add-zero w.depth) (deepened-zero ws)
+deepened-zero (w ∷ ws) = ap₂ (λ n rest. waiting n w.delayed ∷ rest) (add-zero w.depth) (deepened-zero ws)
 
 pub deepened-deepened : (a b : ℕ) (ws : List Waiting) → deepened b (deepened a ws) ≡ deepened (a + b) ws
 deepened-deepened a b [] = refl
-deepened-deepened a b (w ∷ ws) = ap₂ (λ n rest. waiting n w.step ∷ rest) (add_assoc w.depth a b) (deepened-deepened a b ws)
+deepened-deepened a b (w ∷ ws) = ap₂ (λ n rest. waiting n w.delayed ∷ rest) (add_assoc w.depth a b) (deepened-deepened a b ws)
 
--- an environment's list stays where nodes are added behind those that it names
+-- an environment's list stays where nodes are added after those that it names
 
 pub before : (at n : ℕ) → IsTrue (nat_le (suc at) n) → at < n
 before at n h = grind (arith, nat_tests)
@@ -109,7 +109,7 @@ pub earlier-put : {A E : Type 0} (eq : Node → Node → Bool) (r : Result A E) 
 earlier-put eq (Ok x) nodes new node all within put kept = subst AllEarlier (sym put) (earlier-insert_key eq nodes node all within)
 earlier-put eq (Err y) nodes new node all within put kept = subst AllEarlier (sym kept) all
 
--- a key that no key equals gets the place behind all
+-- a key that no key equals gets the place after all
 position_or_len-none : {X : Type 0} (p : X → Bool) (xs : List X) → list_any p xs ≡ false → position_or_len p xs ≡ length xs
 position_or_len-none p [] h = refl
 position_or_len-none p (x ∷ xs) h = by (p x) refl (λ e. position_or_len-none p xs (ap (λ b. b || list_any p xs) (sym e) ∙ h))
@@ -133,7 +133,7 @@ few-put eq (Ok x) nodes new node few put kept place small = by (list_any (eq nod
 -- what a put gives that left the node at this place
 pub record IsPut (old new : List Node) (node : Node) (at : ℕ) : Type 0 where
   pub grows : Grows (lists_of old) (lists_of new)
-  pub list : listed (lists_of new) (env.Node at 0) ≡ waiting 0 node.step ∷ listed (lists_of old) node.rest
+  pub list : listed (lists_of new) (env.Node at 0) ≡ waiting 0 node.delayed ∷ listed (lists_of old) node.rest
   pub within : IsWithin (lists_of new) (env.Node at 0)
 
 pub is_put : (eq : Node → Node → Bool) (old new : List Node) (node : Node) (at : ℕ) → AllEarlier old → IsWithin (lists_of old) node.rest → new ≡ insert_key eq old node → slice_get new at ≡ Some node → IsPut old new node at
@@ -148,7 +148,7 @@ is_put eq old new node at all within put here =
       list =
           deepened-zero _
           ∙ get_or_from_slice_get known at (node_list known node) [] (at_node new at node earlier here).list
-          ∙ ap (λ ws. waiting 0 node.step ∷ ws) (listed-grows (lists_of old) known node.rest grows within);
+          ∙ ap (λ ws. waiting 0 node.delayed ∷ ws) (listed-grows (lists_of old) known node.rest grows within);
       within = is_before-within at (length known) (omega (arith, length-built node_list new));
     }
 
@@ -165,7 +165,7 @@ depth-first nodes at lift by n within all = ⊎_elim found past (slice_get_cases
     found : (node : Node) × (at < length nodes) × (slice_get nodes at ≡ Some node) × (get_or nodes at node ≡ node) → lift + by ≤ n
     found h =
         let known = lists_of nodes in
-        let front = take at known in
-        let list = get_or_from_slice_get known at (node_list front h.0) [] (built-at node_list nodes at h.0 h.2) in
-        let first = All-head (λ w. w.depth + by ≤ n) _ (deepened lift (listed front h.0.rest)) (subst (λ ws. All (λ w. w.depth + by ≤ n) (deepened lift ws)) list all) in
+        let before_it = take at known in
+        let list = get_or_from_slice_get known at (node_list before_it h.0) [] (built-at node_list nodes at h.0 h.2) in
+        let first = All-head (λ w. w.depth + by ≤ n) _ (deepened lift (listed before_it h.0.rest)) (subst (λ ws. All (λ w. w.depth + by ≤ n) (deepened lift ws)) list all) in
         omega arith

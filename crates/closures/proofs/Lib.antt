@@ -1,6 +1,3 @@
-pub mod TableLaws
-pub mod OptionLaws
-pub mod MemoryLaws
 pub mod EnvironmentLaws
 pub mod WeightLaws
 pub mod VariableLaws

@@ -4,14 +4,14 @@ use Rattle.std.proofs.Common.{◌≡◌, ℕ, zero, suc, ◌+◌, ◌*◌, ◌^�
 use Rattle.std.specs.Prelude.{slice_get, nat_le}
 use Rattle.std.proofs.lemmas.Bool.{le-leb, lt-leb}
 use Rattle.std.proofs.lemmas.Option.{slice_get-get_or}
-use Rattle.theory.specs.Things.{Meanings}
-use Rattle.closures.specs.Tables.{Grows}
+use Rattle.trees.specs.Things.{Meanings}
+use Rattle.rows.specs.Tables.{Grows}
 use Rattle.closures.specs.Environments.{Waiting, deepest, listed, IsWithin}
 use Rattle.closures.specs.Closures.{variable_meaning, Stands}
 use Rattle.closures.specs.Weights.{weight_of}
 use Rattle.closures.specs.declared.environments.Environment.{Environment}
 use Rattle.closures.specs.declared.environments.Environment.TheVariants as env
-use Rattle.closures.proofs.TableLaws.{grows-same, grows-grows}
+use Rattle.rows.proofs.TableLaws.{grows-same, grows-grows}
 use Rattle.closures.proofs.EnvironmentLaws.{before}
 use Rattle.closures.proofs.WeightLaws.{weight_of-deepened}
 

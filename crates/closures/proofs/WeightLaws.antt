@@ -3,9 +3,9 @@ use Rattle.std.proofs.Common.{◌≡◌, ℕ, zero, suc, ◌+◌, ◌*◌, ◌^�
 use Rattle.std.proofs.Math.Nat.{pow-suc}
 use Rattle.closures.specs.Environments.{Waiting, deepened}
 use Rattle.closures.specs.Closures.{raised_list}
-use Rattle.closures.specs.Weights.{row_weight, step_weight, weight_of}
-use Rattle.closures.specs.declared.environments.Step.{Step}
-use Rattle.closures.specs.declared.environments.Step.TheVariants.{Under, Raised}
+use Rattle.closures.specs.Weights.{row_weight, delayed_weight, weight_of}
+use Rattle.closures.specs.declared.environments.Delayed.{Delayed}
+use Rattle.closures.specs.declared.environments.Delayed.TheVariants.{Under, Raised}
 
 pub row_weight-suc : (k : ℕ) → row_weight (suc k) ≡ row_weight k + row_weight k + row_weight k
 row_weight-suc k = let e : 3 ^ suc k ≡ 3 ^ k * 3 = pow-suc 3 k in omega arith
@@ -40,13 +40,13 @@ row_weight-one j k a =
     let r = row_weight-two j j k a a in
     omega arith
 
-pub step_weight-pos : (s : Step) → 0 < step_weight s
-step_weight-pos (Under row) = row_weight-pos row
-step_weight-pos (Raised n) = omega arith
+pub delayed_weight-pos : (s : Delayed) → 0 < delayed_weight s
+delayed_weight-pos (Under row) = row_weight-pos row.0
+delayed_weight-pos (Raised n) = omega arith
 
 pub weight_of-deepened : (n : ℕ) (ws : List Waiting) → weight_of (deepened n ws) ≡ weight_of ws
 weight_of-deepened n [] = refl
-weight_of-deepened n (w ∷ ws) = ap (λ m. step_weight w.step + m) (weight_of-deepened n ws)
+weight_of-deepened n (w ∷ ws) = ap (λ m. delayed_weight w.delayed + m) (weight_of-deepened n ws)
 
 pub weight_of-raised_list : (n : ℕ) (ws : List Waiting) → weight_of (raised_list n ws) ≤ 1 + weight_of ws
 weight_of-raised_list zero ws = omega arith

@@ -1,15 +1,15 @@
 -- What closures and their heads mean, and when they mean something.
-use Rattle.std.specs.Prelude.{ℕ, zero, suc, ◌+◌, ◌≤◌, List, [], ◌∷◌, Option, Some, None, map, take}
+use Rattle.std.specs.Prelude.{◌≡◌, ℕ, zero, suc, ◌+◌, ◌-◌, ◌^◌, ◌<◌, ◌≤◌, ◌⊎◌, List, [], ◌∷◌, Option, Some, None, map, option_and_then}
 use Rattle.std.specs.List.{All}
-use Rattle.theory.specs.declared.op.Op.{Op}
-use Rattle.theory.specs.Operators.{kids_of, binds_of}
-use Rattle.theory.specs.Trees.{Subst, Var, shift_by, id}
-use Rattle.theory.specs.Things.{Thing, ATree, ASubst, Meanings, one, both, listed as both_listed, made}
-use Rattle.substitution.specs.Delayed.{Delayed, at_depth, closed}
-use Rattle.closures.specs.Rows.{IsTree, IsSubst}
+use Rattle.trees.specs.declared.op.Op.{Op}
+use Rattle.trees.specs.Operators.{binds_of}
+use Rattle.trees.specs.Trees.{Subst, Var, shift_by, id, count_of}
+use Rattle.trees.specs.Things.{Thing, ATree, ASubst, Meanings, both, consed, made}
+use Rattle.substitution.specs.Delayed.{Delayed as UnderBinders, at_depth, closed}
+use Rattle.rows.specs.Views.{IsTree, IsSubst}
 use Rattle.closures.specs.Environments.{Waiting, waiting, deepened, listed, IsWithin, deepest}
-use Rattle.closures.specs.declared.environments.Step.{Step}
-use Rattle.closures.specs.declared.environments.Step.TheVariants.{Under, Raised}
+use Rattle.closures.specs.declared.environments.Delayed.{Delayed}
+use Rattle.closures.specs.declared.environments.Delayed.TheVariants.{Under, Raised}
 use Rattle.closures.specs.declared.environments.Environment.{Environment}
 use Rattle.closures.specs.declared.closure.Closure.{Closure}
 use Rattle.closures.specs.declared.variables.Found.{Found}
@@ -24,22 +24,22 @@ abbrev pub subst_of : Option Thing → Subst
 subst_of (Some (ASubst d)) = d
 subst_of _ = id
 
--- the substitution of a step
-abbrev pub step_subst : Meanings → Step → Subst
-step_subst f (Under row) = subst_of (f row)
-step_subst f (Raised n) = shift_by n
+-- the substitution that waits
+abbrev pub delayed_subst : Meanings → Delayed → Subst
+delayed_subst f (Under row) = subst_of (f row.0)
+delayed_subst f (Raised n) = shift_by n
 
-abbrev pub delays : Meanings → List Waiting → List Delayed
-delays f ws = map (λ w. at_depth w.depth (step_subst f w.step)) ws
+abbrev pub delays : Meanings → List Waiting → List UnderBinders
+delays f ws = map (λ w. at_depth w.depth (delayed_subst f w.delayed)) ws
 
 -- a thing under substitutions that wait, where it is a tree
-abbrev pub under : Option Thing → List Delayed → Option Thing
+abbrev pub under : Option Thing → List UnderBinders → Option Thing
 under (Some (ATree t)) env = Some (ATree (closed t env))
 under _ env = None
 
 -- what a closure means: its row's tree under what waits
 abbrev pub closure_meaning : Meanings → List (List Waiting) → Closure → Option Thing
-closure_meaning f known c = under (f c.row) (delays f (listed known c.environment))
+closure_meaning f known c = under (f c.row.0) (delays f (listed known c.environment))
 
 -- a variable under what waits
 abbrev pub variable_meaning : Meanings → List Waiting → ℕ → Option Thing
@@ -50,52 +50,65 @@ abbrev pub found_meaning : Meanings → List (List Waiting) → Found → Option
 found_meaning f known (found.Index k) = Some (ATree (Var k))
 found_meaning f known (found.Tree c) = closure_meaning f known c
 
--- what a variable becomes that has met one step
+-- what a variable becomes that has met one substitution
 abbrev pub entered_meaning : Meanings → List (List Waiting) → Entered → Option Thing
 entered_meaning f known (entered.Past k environment) = variable_meaning f (listed known environment) k
 entered_meaning f known (entered.Tree c) = closure_meaning f known c
 
--- the kids of an operator, from the kid `at` on, each under its binders
-abbrev pub kid_meanings : Meanings → List Waiting → Op → ℕ → List ℕ → Option (List Thing)
-kid_meanings f ws op at [] = Some []
-kid_meanings f ws op at (k ∷ ks) =
-    both both_listed (under (f k) (delays f (deepened (binds_of op at) ws))) (kid_meanings f ws op (suc at) ks)
+-- what each kid of an operator means, from the kid `at` on, each under its binders
+abbrev pub kid_things : Meanings → List Waiting → Op → ℕ → List ℕ → List (Option Thing)
+kid_things f ws op at [] = []
+kid_things f ws op at (k ∷ ks) =
+    under (f k) (delays f (deepened (binds_of op at) ws)) ∷ kid_things f ws op (suc at) ks
+
+-- all of them, where each is there
+abbrev pub all_there : {A : Type 0} → List (Option A) → Option (List A)
+all_there [] = Some []
+all_there (o ∷ os) = both consed o (all_there os)
 
 -- what a head says of a closure: a variable, or an operator over the closures of its kids
 abbrev pub head_meaning : Meanings → List (List Waiting) → Head → Option Thing
 head_meaning f known (head.Var k) = Some (ATree (Var k))
-head_meaning f known (head.Make op cells environment) =
-    one (made op) (kid_meanings f (listed known environment) op 0 (take (kids_of op) cells))
+head_meaning f known (head.Make op kids environment) =
+    option_and_then (made op) (all_there (kid_things f (listed known environment) op 0 kids.now))
 
--- the row of a step is that of a substitution
-abbrev pub IsStep : Meanings → Step → Type 0
-IsStep f (Under row) = IsSubst (f row)
-IsStep f (Raised n) = Unit {0}
+-- the row of what waits is that of a substitution
+abbrev pub IsDelayed : Meanings → Delayed → Type 0
+IsDelayed f (Under row) = IsSubst (f row.0)
+IsDelayed f (Raised n) = Unit {0}
 
--- the environment names nodes, its steps are substitutions, and none waits under more than n binders
+-- the environment names nodes, substitutions wait there, and none waits under more than n binders
 pub record Stands (f : Meanings) (known : List (List Waiting)) (n : ℕ) (environment : Environment) : Type 0 where
   pub within : IsWithin known environment
-  pub steps : All (λ w. IsStep f w.step) (listed known environment)
+  pub substs : All (λ w. IsDelayed f w.delayed) (listed known environment)
   pub shallow : All (λ w. w.depth ≤ n) (listed known environment)
 
 -- the same of an environment that waits under `lift` more binders, of which there are at most n
-pub record StandsUnder (f : Meanings) (known : List (List Waiting)) (n lift : ℕ) (behind : Environment) : Type 0 where
+pub record StandsUnder (f : Meanings) (known : List (List Waiting)) (n lift : ℕ) (after : Environment) : Type 0 where
   pub below : lift ≤ n
-  pub within : IsWithin known behind
-  pub steps : All (λ w. IsStep f w.step) (listed known behind)
-  pub shallow : All (λ w. w.depth + lift ≤ n) (listed known behind)
+  pub within : IsWithin known after
+  pub substs : All (λ w. IsDelayed f w.delayed) (listed known after)
+  pub shallow : All (λ w. w.depth + lift ≤ n) (listed known after)
 
 -- the row is that of a tree, under such an environment
 pub record IsClosure (f : Meanings) (known : List (List Waiting)) (n : ℕ) (c : Closure) : Type 0 where
-  pub row : IsTree (f c.row)
+  pub row : IsTree (f c.row.0)
   pub environment : Stands f known n c.environment
+
+-- The index past all the trees that a substitution pushes, under `lift` binders, if a variable passes them. Where there are
+-- 2^64 trees and more it may be that none is told.
+abbrev pub IsPassed : Option Thing → ℕ → ℕ → Option ℕ → Type 0
+IsPassed (Some (ASubst d)) lift index (Some past) =
+    (lift + count_of d.pushed ≤ index) × (past ≡ index - count_of d.pushed + d.shift) × (d.shift ≤ deepest)
+IsPassed (Some (ASubst d)) lift index None = (index < lift + count_of d.pushed) ⊎ (2 ^ 64 ≤ count_of d.pushed)
+IsPassed _ lift index past = ⊥
 
 -- the index grew by one shift at most
 abbrev pub IsNear : ℕ → Entered → Type 0
 IsNear index (entered.Past k environment) = k ≤ index + deepest
 IsNear index (entered.Tree c) = Unit {0}
 
--- the steps with which lifted trees wait
+-- what waits before lifted trees
 abbrev pub raised_list : ℕ → List Waiting → List Waiting
 raised_list zero ws = ws
 raised_list (suc n) ws = waiting 0 (Raised (suc n)) ∷ ws
@@ -110,4 +123,4 @@ EnteredStands f known n (entered.Tree c) = IsClosure f known n c
 
 abbrev pub HeadStands : Meanings → List (List Waiting) → ℕ → Head → Type 0
 HeadStands f known n (head.Var k) = Unit {0}
-HeadStands f known n (head.Make op cells environment) = Stands f known n environment
+HeadStands f known n (head.Make op kids environment) = Stands f known n environment

@@ -1,27 +1,27 @@
 -- The lists that nodes of environments stand for.
 use Rattle.std.specs.Prelude.{◌≡◌, ℕ, suc, ◌+◌, ◌-◌, ◌^◌, nat_le, Bool, true, ◌&&◌, IsTrue, List, [], ◌∷◌, length, slice_index_or}
-use Rattle.closures.specs.Tables.{built}
-use Rattle.closures.specs.declared.environments.Step.{Step}
+use Rattle.rows.specs.Tables.{built}
+use Rattle.closures.specs.declared.environments.Delayed.{Delayed}
 use Rattle.closures.specs.declared.environments.Node.{Node}
 use Rattle.closures.specs.declared.environments.Environment.{Environment}
 use Rattle.closures.specs.declared.environments.Environment.TheVariants as env
 
--- a step that waits under so many binders
+-- what waits, and under how many binders
 pub record Waiting : Type 0 where
   pub depth : ℕ
-  pub step : Step
+  pub delayed : Delayed
 
-abbrev pub waiting : ℕ → Step → Waiting
-waiting n step = record { depth = n; step = step }
+abbrev pub waiting : ℕ → Delayed → Waiting
+waiting n delayed = record { depth = n; delayed = delayed }
 
 -- the most binders that an environment counts
 abbrev pub deepest : ℕ
 deepest = 2 ^ 64 - 1
 
--- the same steps under b more binders
+-- the same under b more binders
 abbrev pub deepened : ℕ → List Waiting → List Waiting
 deepened b [] = []
-deepened b (w ∷ ws) = waiting (w.depth + b) w.step ∷ deepened b ws
+deepened b (w ∷ ws) = waiting (w.depth + b) w.delayed ∷ deepened b ws
 
 -- the list of an environment over nodes that stand for these lists
 abbrev pub listed : List (List Waiting) → Environment → List Waiting
@@ -30,7 +30,7 @@ listed known (env.Node at lift) = deepened lift (slice_index_or known at [])
 
 -- the list of a node
 abbrev pub node_list : List (List Waiting) → Node → List Waiting
-node_list known node = waiting 0 node.step ∷ listed known node.rest
+node_list known node = waiting 0 node.delayed ∷ listed known node.rest
 
 abbrev pub lists_of : List Node → List (List Waiting)
 lists_of = built node_list

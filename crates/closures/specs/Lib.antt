@@ -1,9 +1,5 @@
-pub mod Rows
-pub mod Tables
 pub mod Environments
 pub mod Shown
 pub mod Closures
 pub mod Weights
 pub mod Substs
-pub mod MemoryRows
-pub mod ShownRows

@@ -1,11 +1,12 @@
 //! Rows with what waits before them.
 
 use crate::environments::Environment;
+use rows::TermId;
 
 /// The tree of a row under the substitutions of an environment.
 #[derive(Clone, Copy, Debug, PartialEq, Eq, Hash)]
 pub struct Closure {
-    pub row: u64,
+    pub row: TermId,
     pub environment: Environment,
 }
 
@@ -13,7 +14,7 @@ impl Closure {
     ghost use Rattle.std.specs.Prelude.{◌≡◌};
 
     /// The tree of a row as it is.
-    pub fn of_row(row: u64) -> Closure
+    pub fn of_row(row: TermId) -> Closure
         ensures row { result.row ≡ row }
         ensures environment { result.environment ≡ Environment.Empty }
     {

@@ -4,13 +4,14 @@ ghost use Rattle.std.specs.Prelude.{◌≤◌, ◌^◌, length};
 ghost use Rattle.closures.specs.Environments.{AllEarlier};
 
 use indexmap::IndexSet;
+use rows::SubId;
 use std::alloc::{AllocError, Global};
 
-/// What waits at a node.
+/// A substitution that waits.
 #[derive(Clone, Copy, Debug, PartialEq, Eq, Hash)]
-pub enum Step {
+pub enum Delayed {
     /// The substitution of a row.
-    Under(u64),
+    Under(SubId),
     /// The shift by so many.
     Raised(u64),
 }
@@ -24,15 +25,15 @@ pub enum Environment {
     Node(usize, u64),
 }
 
-/// What waits first, under no binder, and what waits behind it.
+/// The substitution that waits first, under no binder, and what waits after it.
 #[derive(Clone, Copy, Debug, PartialEq, Eq, Hash)]
 pub struct Node {
-    pub step: Step,
+    pub delayed: Delayed,
     pub rest: Environment,
 }
 
-/// The nodes of environments, each behind those that it names. Equal environments have one node. Contracts see the list that
-/// each node stands for.
+/// The nodes of environments, each after those that it names. Equal environments have one node. Contracts see the list that
+/// each node stands for. After out of memory the nodes are as before.
 #[derive(Drop)]
 pub struct Environments {
     nodes: IndexSet<Node>,
@@ -43,7 +44,7 @@ pub struct Environments {
 impl Environments {
     ghost use Rattle.std.specs.Prelude.{◌≡◌, ◌<◌, ◌≤◌, ◌+◌, ◌∷◌, [], length, slice_get, IfOk, Some};
     ghost use Rattle.std.specs.List.{All};
-    ghost use Rattle.closures.specs.Tables.{Grows};
+    ghost use Rattle.rows.specs.Tables.{Grows};
     ghost use Rattle.closures.specs.Environments.{IsWithin, listed, deepened, waiting, deepest};
     ghost use Rattle.closures.specs.Shown.{lists};
 
@@ -62,23 +63,32 @@ impl Environments {
         self.nodes.len()
     }
 
+    /// Forgets all nodes, and keeps their memory.
+    pub fn clear(&mut self)
+        ensures { lists self.new ≡ [] }
+    {
+        self.nodes.clear();
+    }
+
     /// The node of this number.
     pub fn node(&self, at: usize) -> Node
         requires { at < length (lists self.now) }
-        ensures list { slice_get (lists self.now) at ≡ Some (waiting 0 result.step ∷ listed (lists self.now) result.rest) }
+        ensures list { let known = lists self.now in
+            slice_get known at ≡ Some (waiting 0 result.delayed ∷ listed known result.rest) }
         ensures within { IsWithin (lists self.now) result.rest }
     {
         self.nodes[at]
     }
 
-    /// The environment with one more step in front, under no binder.
-    pub fn push(&mut self, step: Step, rest: Environment) -> Result<Environment, AllocError>
+    /// The environment where one more substitution waits before the others, under no binder.
+    pub fn push(&mut self, delayed: Delayed, rest: Environment) -> Result<Environment, AllocError>
         requires { IsWithin (lists self.old) rest }
         ensures grows { Grows (lists self.old) (lists self.new) }
-        ensures list { IfOk result (λ env. listed (lists self.new) env ≡ waiting 0 step ∷ listed (lists self.old) rest) }
+        ensures list { IfOk result (λ env. listed (lists self.new) env ≡
+            waiting 0 delayed ∷ listed (lists self.old) rest) }
         ensures within { IfOk result (λ env. IsWithin (lists self.new) env) }
     {
-        match self.nodes.insert_full(Node { step, rest }) {
+        match self.nodes.insert_full(Node { delayed, rest }) {
             Ok((at, _)) => Ok(Environment::Node(at, 0)),
             Err(_) => Err(AllocError),
         }

@@ -1,334 +1,331 @@
 //! What closures over rows in memory open to.
 
-ghost use Rattle.std.specs.Prelude.{◌≤◌, length, slice_get};
-ghost use Rattle.closures.specs.Rows.{IsTree};
-ghost use Rattle.closures.specs.ShownRows.{shown};
+ghost use Rattle.std.specs.Prelude.{◌≤◌, length};
+ghost use Rattle.rows.specs.Views.{IsTree};
+ghost use Rattle.rows.specs.Shown.{store_means};
 
-use crate::memory::{MemRows, Row};
-use crate::rows::{ContextRow, MOST_KIDS, Reader, SubstRow, TreeRow};
-use crate::{
-    Closure, Environment, Environments, Head, SubstClosure, SubstHead, head_of, kid, subst_head,
-};
+use crate::{Closure, Environments, Head, SubstClosure, SubstHead, head_of, kid, subst_head};
+use rows::{Row, RowStore, SubId, SubRow, TermId, TermRow};
 use std::alloc::Global;
 use std::process::Abort;
 use std::test::Fail;
-use theory::{Op, PartKind, kid_count};
+use trees::{Op, kid_count};
 
-const fn var(index: u32) -> Row {
-    Row::Tree(TreeRow::Var(index))
+const fn var(index: u32) -> Row<'static> {
+    Row::Term(TermRow::Var(index))
 }
 
-const fn universe() -> Row {
-    Row::Tree(TreeRow::Make(Op::U, [0; MOST_KIDS]))
+const fn make(op: Op, kids: &'static [u64]) -> Row<'static> {
+    Row::Term(TermRow::Make(op, kids))
 }
 
-const fn lambda(ty: u64, body: u64) -> Row {
-    Row::Tree(TreeRow::Make(Op::Lam, [ty, body, 0, 0]))
+const fn instance(term: u64, sub: u64) -> Row<'static> {
+    Row::Term(TermRow::Instance(TermId(term), SubId(sub)))
 }
 
-const fn instance(tree: u64, subst: u64) -> Row {
-    Row::Tree(TreeRow::Instance(tree, subst))
+const fn shift(by: u64) -> Row<'static> {
+    Row::Subst(SubRow::Shift(by))
 }
 
-const fn shift(by: u64) -> Row {
-    Row::Subst(SubstRow::Shift(by))
+const fn push(sub: u64, term: u64) -> Row<'static> {
+    Row::Subst(SubRow::Push(SubId(sub), TermId(term)))
 }
 
-const fn push(subst: u64, tree: u64) -> Row {
-    Row::Subst(SubstRow::Push(subst, tree))
+const fn then(first: u64, second: u64) -> Row<'static> {
+    Row::Subst(SubRow::Then(SubId(first), SubId(second)))
 }
 
-const fn then(first: u64, second: u64) -> Row {
-    Row::Subst(SubstRow::Then(first, second))
+/// Adds a row that fits.
+fn add(rt: &impl Abort, rows: &mut RowStore, row: &Row<'_>) -> Result<u64, Fail> {
+    assert!(rt; rows.fits(row));
+    Ok(rows.add(*row)?)
 }
 
-fn filled(rt: &impl Abort, alloc: Global, table: &[Row]) -> Result<MemRows, Fail> {
-    let mut rows = MemRows::new(alloc);
+fn filled(rt: &impl Abort, alloc: Global, table: &[Row<'_>]) -> Result<RowStore, Fail> {
+    let mut rows = RowStore::new(alloc);
     for row in table {
-        assert!(rt; rows.fits(row));
-        rows.add(*row)?;
+        add(rt, &mut rows, row)?;
     }
     Ok(rows)
 }
 
-/// The head of a kid of a kid and so on of the tree of a row.
+/// The index of the variable that a row opens to, and the number of nodes that it took.
+fn variable_at(
+    rt: &impl Abort,
+    alloc: Global,
+    rows: &RowStore,
+    row: u64,
+) -> Result<(u128, usize), Fail> {
+    assert!(rt; rows.is_term(TermId(row)));
+    let mut environments = Environments::new(alloc);
+    let head = head_of(rows, &mut environments, Closure::of_row(TermId(row)))?;
+    let Head::Var(index) = head else {
+        return Err(Fail::from("an operator"));
+    };
+    Ok((index, environments.len()))
+}
+
+/// The head of a kid of a kid and so on of the tree of a row: the index of a variable, or an operator.
 fn head_along(
     rt: &impl Abort,
     alloc: Global,
-    rows: &MemRows,
-    row: u64,
+    rows: &RowStore,
+    row: TermId,
     path: &[u8],
-) -> Result<Head, Fail>
-    requires row { IsTree (slice_get (shown rows.now) row) }
+) -> Result<Result<u128, Op>, Fail>
+    requires row { IsTree (store_means rows.now row.0) }
     requires path { length path.now ≤ 8 }
 {
     let mut environments = Environments::new(alloc);
     let mut head = head_of(rows, &mut environments, Closure::of_row(row))?;
     for at in path {
-        let Head::Make(op, cells, environment) = head else {
-            return Ok(head);
+        let Head::Make(op, kids, environment) = head else {
+            return Err(Fail::from("a variable on the way"));
         };
-        assert!(rt; *at < 4 && *at < kid_count(op));
-        let row = cells[*at as usize];
-        assert!(rt; rows.is_tree(row));
+        assert!(rt; *at < kid_count(op) && (*at as usize) < kids.len());
+        let row = kids[*at as usize];
+        assert!(rt; rows.is_term(TermId(row)));
         let closure = kid(&environments, op, *at, row, environment);
         head = head_of(rows, &mut environments, closure)?;
     }
-    Ok(head)
+    match head {
+        Head::Var(index) => Ok(Ok(index)),
+        Head::Make(op, _, _) => Ok(Err(op)),
+    }
 }
 
 #[test]
 fn variables_open_to_variables(rt: HostRuntime) -> Result<(), Fail> {
-    // the last row opens to the variable of that index
-    let cases: [(&[Row], u128); 10] = [
-        (&[var(3)], 3),
-        // the tree that is pushed; the index past it; the earlier of two trees
-        (&[var(0), var(7), shift(0), push(2, 1), instance(0, 3)], 7),
-        (&[var(2), var(7), shift(4), push(2, 1), instance(0, 3)], 5),
-        (
-            &[
-                var(1),
-                var(7),
-                shift(0),
-                push(2, 1),
-                var(9),
-                push(3, 4),
-                instance(0, 5),
-            ],
-            7,
-        ),
-        (&[var(3), shift(2), instance(0, 1)], 5),
-        // a push and then a shift; a shift and then a push
-        (
-            &[
-                var(0),
-                var(1),
-                shift(5),
-                push(2, 1),
-                shift(3),
-                then(3, 4),
-                instance(0, 5),
-            ],
-            4,
-        ),
-        (
-            &[
-                var(4),
-                shift(1),
-                var(7),
-                shift(0),
-                push(3, 2),
-                then(1, 4),
-                instance(0, 5),
-            ],
-            4,
-        ),
-        // an instance of an instance, and one that is pushed
-        (
-            &[
-                var(0),
-                var(1),
-                shift(0),
-                push(2, 1),
-                instance(0, 3),
-                shift(3),
-                instance(4, 5),
-            ],
-            4,
-        ),
-        (
-            &[
-                var(0),
-                shift(6),
-                instance(0, 1),
-                shift(0),
-                push(3, 2),
-                instance(0, 4),
-            ],
-            6,
-        ),
-        // the index grows past 64 bits
-        (
-            &[
-                var(u32::MAX),
-                shift(u64::MAX),
-                instance(0, 1),
-                instance(2, 1),
-            ],
-            36893488151714070525,
-        ),
+    // 0 to 9: variables, the shifts by none, 2 and 3
+    let few = [
+        var(0),
+        var(1),
+        var(2),
+        var(3),
+        var(7),
+        var(9),
+        shift(0),
+        shift(2),
+        shift(3),
+        shift(5),
+        // 10 to 12: 0 becomes 7; 0 becomes 9 and 1 becomes 7; a push on a shift by 5
+        push(6, 4),
+        push(10, 5),
+        push(9, 1),
+        // 13 to 15: a push and then a shift; a shift and then a push; a variable under a shift
+        then(12, 8),
+        then(7, 11),
+        instance(0, 8),
+        // 16 and 17: that is pushed; a push, and then what pushes two trees
+        push(6, 15),
+        then(10, 11),
     ];
-    for (table, want) in cases {
-        let rows = filled(&rt, rt.alloc(), table)?;
-        let last = table.len() as u64 - 1;
-        assert!(rt; rows.is_tree(last));
-        let mut environments = Environments::new(rt.alloc());
-        let head = head_of(&rows, &mut environments, Closure::of_row(last))?;
-        assert_eq!(rt; head, Head::Var(want));
+    // the variable that the variable of an index becomes under a substitution
+    let cases: [(u32, u64, u128); 14] = [
+        (3, 6, 3),
+        (3, 7, 5),
+        // the tree that is pushed; the index past it; the earlier of two trees
+        (0, 10, 7),
+        (2, 10, 1),
+        (1, 11, 7),
+        (0, 13, 4),
+        (2, 13, 9),
+        // all trees of the second dropped by the first; and not all
+        (0, 14, 0),
+        (3, 14, 3),
+        (0, 16, 3),
+        // the tree of the first, which meets the second; the trees of the second; past both
+        (0, 17, 5),
+        (1, 17, 9),
+        (2, 17, 7),
+        (3, 17, 0),
+    ];
+    for (index, sub, want) in cases {
+        let mut rows = filled(&rt, rt.alloc(), &few)?;
+        let variable = add(&rt, &mut rows, &var(index))?;
+        let whole = Row::Term(TermRow::Instance(TermId(variable), SubId(sub)));
+        let row = add(&rt, &mut rows, &whole)?;
+        let (found, _) = variable_at(&rt, rt.alloc(), &rows, row)?;
+        assert_eq!(rt; found, want, "at {index} under {sub}");
+    }
+    Ok(())
+}
+
+#[test]
+fn indices_grow_past_64_bits(rt: HostRuntime) -> Result<(), Fail> {
+    // from 2 on each row is the one before it under the greatest shift
+    let table = [
+        shift(1 << 62),
+        var(u32::MAX),
+        instance(1, 0),
+        instance(2, 0),
+        instance(3, 0),
+        instance(4, 0),
+        instance(5, 0),
+        instance(6, 0),
+        instance(7, 0),
+        instance(8, 0),
+    ];
+    let rows = filled(&rt, rt.alloc(), &table)?;
+    // the index after one, four and eight shifts
+    let cases: [(u64, u128); 3] = [
+        (2, 4_611_686_022_722_355_199),
+        (5, 18_446_744_078_004_518_911),
+        (9, 36_893_488_151_714_070_527),
+    ];
+    for (row, want) in cases {
+        let (found, _) = variable_at(&rt, rt.alloc(), &rows, row)?;
+        assert_eq!(rt; found, want, "at {row}");
     }
     Ok(())
 }
 
 #[test]
 fn operators_open_under_binders(rt: HostRuntime) -> Result<(), Fail> {
-    // an abstraction twice over a variable, where 0 becomes the variable 7 and the others are raised by 4: the row of one or
-    // both, the index, the kids on the way, and the variable or operator there
-    let cases: [(u64, u32, &[u8], Result<u128, Op>); 11] = [
-        (2, 1, &[], Err(Op::Lam)),
-        (2, 1, &[0], Err(Op::U)),
-        // bound, replaced by a tree that is raised, and past the tree
-        (2, 0, &[1], Ok(0)),
-        (2, 1, &[1], Ok(8)),
-        (2, 2, &[1], Ok(5)),
-        (3, 1, &[1], Err(Op::Lam)),
-        (3, 1, &[1, 0], Err(Op::U)),
-        (3, 0, &[1, 1], Ok(0)),
-        (3, 1, &[1, 1], Ok(1)),
-        (3, 2, &[1, 1], Ok(9)),
-        (3, 4, &[1, 1], Ok(7)),
+    // 0 becomes the variable 7 and the others are raised by 4, over an abstraction or two; at 10 and 11 it becomes an abstraction
+    // whose body is the variable 1, looked up under a binder
+    let table = [
+        make(Op::U, &[]),
+        var(0),
+        var(1),
+        var(2),
+        var(7),
+        shift(4),
+        push(5, 4),
+        // 7 to 9: an abstraction over the variables 0, 1 and 2
+        make(Op::Lam, &[0, 1]),
+        make(Op::Lam, &[0, 2]),
+        make(Op::Lam, &[0, 3]),
+        push(5, 8),
+        make(Op::Lam, &[0, 8]),
+        // 12 to 15: instances of these and of an abstraction twice over
+        instance(7, 6),
+        instance(8, 6),
+        instance(9, 6),
+        instance(11, 6),
+        // 16 and 17: where the abstraction is pushed; an instance below a binder under a substitution that waits
+        instance(8, 10),
+        instance(1, 6),
+        make(Op::Lam, &[0, 17]),
+        instance(18, 6),
+        // 20 and 21: a `then` over an abstraction
+        then(6, 5),
+        instance(8, 20),
     ];
-    for (tree, index, path, want) in cases {
-        let table = [
-            universe(),
-            var(index),
-            lambda(0, 1),
-            lambda(0, 2),
-            var(7),
-            shift(4),
-            push(5, 4),
-            instance(tree, 6),
-        ];
-        let rows = filled(&rt, rt.alloc(), &table)?;
-        assert!(rt; rows.is_tree(7) && path.len() <= 8);
-        let there = match head_along(&rt, rt.alloc(), &rows, 7, path)? {
-            Head::Var(index) => Ok(index),
-            Head::Make(op, _, _) => Err(op),
-        };
-        assert_eq!(rt; there, want);
+    let cases: [(u64, &[u8], Result<u128, Op>); 13] = [
+        (12, &[], Err(Op::Lam)),
+        (12, &[0], Err(Op::U)),
+        // bound, replaced by a tree that is raised, and past the tree
+        (12, &[1], Ok(0)),
+        (13, &[1], Ok(8)),
+        (14, &[1], Ok(5)),
+        (15, &[1], Err(Op::Lam)),
+        (15, &[1, 1], Ok(1)),
+        // a pushed tree with a binder of its own: what it binds stays, what is free in it is raised
+        (16, &[1], Err(Op::Lam)),
+        (16, &[1, 1], Ok(2)),
+        (16, &[1, 0], Err(Op::U)),
+        // 0 is bound below the binder: the inner instance takes it to 7, which the outer one takes past its tree
+        (19, &[1], Ok(10)),
+        (21, &[1], Ok(12)),
+        (18, &[1], Ok(7)),
+    ];
+    let rows = filled(&rt, rt.alloc(), &table)?;
+    for (row, path, want) in cases {
+        assert!(rt; rows.is_term(TermId(row)) && path.len() <= 8);
+        let there = head_along(&rt, rt.alloc(), &rows, TermId(row), path)?;
+        assert_eq!(rt; there, want, "at {row} along {path:?}");
     }
     Ok(())
 }
 
 #[test]
-fn a_long_chain_of_instances_opens(rt: HostRuntime) -> Result<(), Fail> {
-    let mut rows = filled(&rt, rt.alloc(), &[shift(1), var(0)])?;
+fn long_chains_open_in_the_time_of_their_rows(rt: HostRuntime) -> Result<(), Fail> {
+    // instances of instances
+    let table = [shift(1), var(0), shift(0), make(Op::Zero, &[]), push(2, 3)];
+    let mut rows = filled(&rt, rt.alloc(), &table)?;
     let mut last = 1;
-    for _ in 0..100_000 {
-        assert!(rt; rows.is_tree(last) && rows.is_subst(0));
-        last = rows.instance(last, 0)?;
+    for _ in 0..10_000 {
+        let whole = Row::Term(TermRow::Instance(TermId(last), SubId(0)));
+        last = add(&rt, &mut rows, &whole)?;
     }
-    assert!(rt; rows.is_tree(last));
-    let mut environments = Environments::new(rt.alloc());
-    let head = head_of(&rows, &mut environments, Closure::of_row(last))?;
-    assert_eq!(rt; head, Head::Var(100_000));
-    assert_eq!(rt; environments.len(), 100_000);
+    assert_eq!(rt;
+        variable_at(&rt, rt.alloc(), &rows, last)?,
+        (10_000, 10_000)
+    );
+    // each substitution twice the one before: past 2^20 trees and fewer, and among 2^21 and more, each of which is zero
+    let mut sub = 4;
+    for doublings in 1..=40u32 {
+        let twice = Row::Subst(SubRow::Then(SubId(sub), SubId(sub)));
+        sub = add(&rt, &mut rows, &twice)?;
+        let variable = add(&rt, &mut rows, &var(1 << 20))?;
+        let whole = Row::Term(TermRow::Instance(TermId(variable), SubId(sub)));
+        let row = TermId(add(&rt, &mut rows, &whole)?);
+        assert!(rt; rows.is_term(row));
+        let there = head_along(&rt, rt.alloc(), &rows, row, &[])?;
+        let want = (1u128 << 20).checked_sub(1 << doublings).ok_or(Op::Zero);
+        assert_eq!(rt; there, want, "at {doublings}");
+    }
     Ok(())
 }
 
-/// What stands outermost in a substitution, and the head of the tree that is pushed.
+/// What stands outermost in a substitution: a shift, or a push of the variable of an index.
 #[derive(Clone, Copy, Debug, PartialEq, Eq)]
 enum Outermost {
     Shift(u128),
-    Push(Head),
+    Push(u128),
 }
 
 #[test]
 fn substitutions_open_to_shifts_or_pushes(rt: HostRuntime) -> Result<(), Fail> {
-    // what stands outermost in the last row
-    let cases: [(&[Row], Outermost); 7] = [
-        (&[shift(3)], Outermost::Shift(3)),
-        (&[shift(2), shift(3), then(0, 1)], Outermost::Shift(5)),
-        (
-            &[shift(u64::MAX), then(0, 0), then(1, 1)],
-            Outermost::Shift(73786976294838206460),
-        ),
-        // a shift drops trees, and the shift behind them takes what is left of it
-        (
-            &[var(0), shift(4), push(1, 0), shift(1), then(3, 2)],
-            Outermost::Shift(4),
-        ),
-        (
-            &[var(0), shift(4), push(1, 0), shift(3), then(3, 2)],
-            Outermost::Shift(6),
-        ),
-        (
-            &[
-                var(5),
-                var(6),
-                shift(4),
-                push(2, 0),
-                push(3, 1),
-                shift(1),
-                then(5, 4),
-            ],
-            Outermost::Push(Head::Var(5)),
-        ),
-        // what comes later meets the tree
-        (
-            &[var(5), shift(4), push(1, 0), shift(3), then(2, 3)],
-            Outermost::Push(Head::Var(8)),
-        ),
+    let table = [
+        // 0 to 5
+        var(5),
+        var(6),
+        shift(1),
+        shift(2),
+        shift(3),
+        shift(4),
+        // 6 and 7: one tree on a shift by 4, and two
+        push(5, 0),
+        push(6, 1),
+        // 8 to 12: shifts one after another; a shift drops trees, and what waits after it takes what is left of it
+        then(3, 4),
+        then(2, 6),
+        then(4, 6),
+        then(2, 7),
+        then(3, 7),
+        // 13 to 15: what comes later meets the tree; a second `then`; a chain that drops two of three trees
+        then(6, 4),
+        then(12, 3),
+        then(6, 7),
+        then(3, 15),
     ];
-    for (table, want) in cases {
-        let rows = filled(&rt, rt.alloc(), table)?;
-        let row = table.len() as u64 - 1;
-        assert!(rt; rows.is_subst(row));
+    let cases: [(u64, Outermost); 10] = [
+        (4, Outermost::Shift(3)),
+        (8, Outermost::Shift(5)),
+        (9, Outermost::Shift(4)),
+        (10, Outermost::Shift(6)),
+        (11, Outermost::Push(5)),
+        (12, Outermost::Shift(4)),
+        (13, Outermost::Push(8)),
+        (14, Outermost::Shift(6)),
+        (15, Outermost::Push(7)),
+        (16, Outermost::Shift(7)),
+    ];
+    let rows = filled(&rt, rt.alloc(), &table)?;
+    for (row, want) in cases {
+        assert!(rt; rows.is_subst(SubId(row)));
         let mut environments = Environments::new(rt.alloc());
-        let closure = SubstClosure {
-            row,
-            environment: Environment::Empty,
-        };
+        let closure = SubstClosure::of_row(SubId(row));
         let outermost = match subst_head(&rows, &mut environments, closure)? {
             SubstHead::Shift(by) => Outermost::Shift(by),
-            SubstHead::Push(_, tree) => {
-                Outermost::Push(head_of(&rows, &mut environments, tree)?)
-            }
+            SubstHead::Push(_, tree) => match head_of(&rows, &mut environments, tree)? {
+                Head::Var(index) => Outermost::Push(index),
+                Head::Make(_, _, _) => return Err(Fail::from("an operator")),
+            },
         };
-        assert_eq!(rt; outermost, want);
-    }
-    Ok(())
-}
-
-#[test]
-fn rows_are_read_as_they_were_made(rt: HostRuntime) -> Result<(), Fail> {
-    let mut rows = MemRows::new(rt.alloc());
-    let empty = rows.ctx_nil()?;
-    let universe = rows.make(Op::U, &[])?;
-    assert!(rt; rows.is_context(empty) && rows.is_tree(universe));
-    let with_var = rows.ctx_var(empty, universe)?;
-    assert!(rt; rows.is_context(with_var));
-    let with_name = rows.ctx_name(with_var)?;
-    assert!(rt; rows.is_context(with_name) && rows.is_tree(universe));
-    let with_face = rows.ctx_face(with_name, universe)?;
-    assert!(rt; rows.is_context(with_face));
-    assert!(rt; matches!(rows.context(with_face), ContextRow::WithFace(3, 1)));
-    let variable = rows.var(7)?;
-    let by = rows.shift(4)?;
-    assert!(rt; rows.is_subst(by) && rows.is_tree(variable));
-    let pushed = rows.push(by, variable)?;
-    assert!(rt; rows.is_subst(by) && rows.is_subst(pushed));
-    let both = rows.then(by, pushed)?;
-    assert!(rt; rows.is_subst(both));
-    assert!(rt; matches!(rows.subst(both), SubstRow::Then(6, 7)));
-    assert!(rt; rows.is_subst(both) && rows.is_tree(variable));
-    let whole = rows.instance(variable, both)?;
-    assert!(rt; rows.is_tree(whole));
-    assert!(rt; matches!(rows.tree(whole), TreeRow::Instance(5, 8)));
-    assert_eq!(rt; rows.len(), 10);
-    assert_eq!(rt; rows.kind(both), Some(PartKind::Subst));
-    assert_eq!(rt; rows.kind(10), None);
-    // rows that name none, and rows of the wrong kind
-    for row in [var(0), shift(0), lambda(universe, whole), instance(5, 8)] {
-        assert!(rt; rows.fits(&row));
-    }
-    for row in [
-        lambda(universe, both),
-        lambda(10, 1),
-        instance(8, 5),
-        push(5, 5),
-        then(8, 0),
-    ] {
-        assert!(rt; !rows.fits(&row));
+        assert_eq!(rt; outermost, want, "at {row}");
     }
     Ok(())
 }

@@ -3,8 +3,8 @@ use Rattle.std.proofs.Common.{◌≡◌, ℕ, zero, suc, ◌+◌, ◌<◌, ◌�
 use Rattle.std.specs.Prelude.{slice_get}
 use Rattle.std.specs.List.{All, Contains}
 use Rattle.std.proofs.lemmas.List.Elements.{All-contains, All-append, All-weaker, All-same}
-use Rattle.theory.specs.Things.{Meanings}
-use Rattle.closures.specs.Tables.{Grows}
+use Rattle.trees.specs.Things.{Meanings}
+use Rattle.rows.specs.Tables.{Grows}
 use Rattle.closures.specs.Environments.{Waiting}
 use Rattle.compare.specs.Pairs.{Agrees, IsPair, Opens, pair_size, total}
 use Rattle.compare.specs.declared.pairs.Pair.{Pair}
@@ -46,8 +46,8 @@ module _ (f : Meanings) (start : List (List Waiting)) (firsts : List Pair) (know
     more-stand stand k d lt =
         let l : length (pairs ++ opens.more) ≡ length pairs + length opens.more = length-append pairs opens.more in
         let one = stand (length pairs) (stands-in p (contains-place pairs at p here)) in
-        let behind : drop (length pairs) new ≡ opens.more = ap (drop (length pairs)) opens.grown ∙ drop-length pairs opens.more in
-        is_pair-weaker f newer (suc (length pairs)) (length (pairs ++ opens.more)) (get_or opens.more k d) (omega arith) (All-same (IsPair f newer (suc (length pairs))) opens.more (drop (length pairs) new) (sym behind) one k d lt)
+        let after : drop (length pairs) new ≡ opens.more = ap (drop (length pairs)) opens.grown ∙ drop-length pairs opens.more in
+        is_pair-weaker f newer (suc (length pairs)) (length (pairs ++ opens.more)) (get_or opens.more k d) (omega arith) (All-same (IsPair f newer (suc (length pairs))) opens.more (drop (length pairs) new) (sym after) one k d lt)
 
     pub walk-next : ((n : ℕ) → IsPair f known n p → All (IsPair f newer (suc n)) (drop (length pairs) new)) → Walk f start firsts newer next new
     walk-next stand =

@@ -1,12 +1,10 @@
 -- Pairs that a comparison asks for.
-use Rattle.std.proofs.Common.{◌≡◌, ℕ, List, [], ◌∷◌, ◌++◌, refl, sym, ◌∙◌, ap, Result, Bool, IsTrue, ◌↔◌}
-use Rattle.std.specs.Prelude.{IfOk}
-use Rattle.std.proofs.lemmas.Result.{IfOk-weaker}
+use Rattle.std.proofs.Common.{◌≡◌, ℕ, List, [], ◌∷◌, ◌++◌, refl, sym, ◌∙◌, ap, Bool, IsTrue, ◌↔◌}
 use Rattle.std.specs.List.{All}
 use Rattle.std.proofs.lemmas.List.{append-nil}
 use Rattle.std.proofs.lemmas.List.Elements.{All-nil, All-cons, All-contains, Contains-push}
-use Rattle.theory.specs.Things.{Meanings}
-use Rattle.closures.specs.Rows.{IsTree}
+use Rattle.trees.specs.Things.{Meanings}
+use Rattle.rows.specs.Views.{IsTree}
 use Rattle.closures.specs.Environments.{Waiting}
 use Rattle.closures.specs.Closures.{closure_meaning}
 use Rattle.closures.specs.declared.environments.Environment.TheVariants as env
@@ -55,10 +53,10 @@ module _ (f : Meanings) (known : List (List Waiting)) where
   }
 
   -- a row as it is
-  pub row-meaning : (row : ℕ) (c : Closure) → c.row ≡ row → c.environment ≡ env.Empty → IsTree (f row) → closure_meaning f known c ≡ f row
+  pub row-meaning : (row : ℕ) (c : Closure) → c.row.0 ≡ row → c.environment ≡ env.Empty → IsTree (f row) → closure_meaning f known c ≡ f row
   row-meaning row c is none tree = rw (none, is, tree.1) refl
 
-  pub asks-rows : (left right : ℕ) (p : Pair) (old new : List Pair) → p.left.row ≡ left → p.left.environment ≡ env.Empty → p.right.row ≡ right → p.right.environment ≡ env.Empty → IsTree (f left) → IsTree (f right) → Adds p old new → Asks f known (f left ≡ f right) old new
+  pub asks-rows : (left right : ℕ) (p : Pair) (old new : List Pair) → p.left.row.0 ≡ left → p.left.environment ≡ env.Empty → p.right.row.0 ≡ right → p.right.environment ≡ env.Empty → IsTree (f left) → IsTree (f right) → Adds p old new → Asks f known (f left ≡ f right) old new
   asks-rows left right p old new l le r re tl tr a =
       let ml = row-meaning left p.left l le tl in
       let mr = row-meaning right p.right r re tr in
@@ -70,5 +68,9 @@ module _ (f : Meanings) (known : List (List Waiting)) where
 pub asks-stand : (f : Meanings) (known : List (List Waiting)) (goal : Type 0) (old new : List Pair) → old ≡ [] → Asks f known goal old new → All (IsPair f known 0) new
 asks-stand f known goal old new none a = rw (a.grown, none) a.stand
 
-pub asks-answer : {E : Type 0} (f : Meanings) (known : List (List Waiting)) (goal : Type 0) (old new : List Pair) (r : Result Bool E) → old ≡ [] → Asks f known goal old new → IfOk r (λ same. IsTrue same ↔ All (Agrees f known) new) → IfOk r (λ same. IsTrue same ↔ goal)
-asks-answer f known goal old new r none a agree = IfOk-weaker r _ _ (λ same h. (λ yes. a.back (h.0 yes), λ g. h.1 (rw (a.grown, none) (a.forth g)))) agree
+pub asks-decides : (f : Meanings) (known : List (List Waiting)) (goal : Type 0) (old new : List Pair) (b : Bool) → old ≡ [] → Asks f known goal old new → (IsTrue b ↔ All (Agrees f known) new) → (IsTrue b ↔ goal)
+asks-decides f known goal old new b none a agree = (λ yes. a.back (agree.0 yes), λ g. agree.1 (rw (a.grown, none) (a.forth g)))
+
+-- no pair is there
+pub none-stand : (f : Meanings) (known : List (List Waiting)) (n : ℕ) (pairs : List Pair) → pairs ≡ [] → All (IsPair f known n) pairs
+none-stand f known n pairs none = rw none (All-nil (IsPair f known n))

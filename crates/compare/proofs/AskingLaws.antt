@@ -3,8 +3,8 @@ use Rattle.std.proofs.Common.{◌≡◌, List, [], ◌++◌, sym, ◌∙◌, ap,
 use Rattle.std.specs.List.{All, Contains}
 use Rattle.std.proofs.lemmas.List.{append-nil}
 use Rattle.std.proofs.lemmas.List.Elements.{All-nil, All-append, All-contains, Contains-append_left, Contains-append_right}
-use Rattle.theory.specs.Things.{Meanings}
-use Rattle.closures.specs.Tables.{Grows}
+use Rattle.trees.specs.Things.{Meanings}
+use Rattle.rows.specs.Tables.{Grows}
 use Rattle.closures.specs.Environments.{Waiting}
 use Rattle.compare.specs.Pairs.{Agrees, Asks, IsPair}
 use Rattle.compare.specs.declared.pairs.Pair.{Pair}
@@ -23,11 +23,11 @@ pub record Asking (f : Meanings) (known : List (List Waiting)) (goal left : Type
 All-within : {P : Type 0} (Q : P → Type 0) (some all : List P) → ((p : P) → Contains some p → Contains all p) → All Q all → All Q some
 All-within Q some all within holds = All-from_each Q some (λ p c. All-contains Q all p holds (within p c))
 
-in-front : (mid more new : List Pair) → new ≡ mid ++ more → (p : Pair) → Contains mid p → Contains new p
-in-front mid more new grown p c = rw grown (Contains-append_left mid more p c)
+in-mid : (mid more new : List Pair) → new ≡ mid ++ more → (p : Pair) → Contains mid p → Contains new p
+in-mid mid more new grown p c = rw grown (Contains-append_left mid more p c)
 
-behind : (mid more new : List Pair) → new ≡ mid ++ more → (p : Pair) → Contains more p → Contains new p
-behind mid more new grown p c = rw grown (Contains-append_right mid more p c)
+after : (mid more new : List Pair) → new ≡ mid ++ more → (p : Pair) → Contains more p → Contains new p
+after mid more new grown p c = rw grown (Contains-append_right mid more p c)
 
 module _ (f : Meanings) (known : List (List Waiting)) (goal left : Type 0) where
   -- nothing was asked
@@ -51,7 +51,7 @@ module _ (f : Meanings) (known : List (List Waiting)) (goal left : Type 0) where
           let s = a.split g in
           let p = apart s.0 in
           (p.1, All-append (Agrees f known) a.more b.more s.1 (b.forth p.0));
-      join = λ r all. a.join (together (b.back all) r) (All-within (Agrees f known) mid new (in-front mid b.more new b.grown) all);
+      join = λ r all. a.join (together (b.back all) r) (All-within (Agrees f known) mid new (in-mid mid b.more new b.grown) all);
     }
 
     -- what is left holds
@@ -83,6 +83,6 @@ module _ (f : Meanings) (known : List (List Waiting)) (goal left : Type 0) where
           stand = All-from_each (IsPair f newer 0) a.more (λ p c. is_pair-grows f known newer 0 p g (All-contains (IsPair f known 0) a.more p a.stand c));
           split = λ h.
               let s = a.split h in
-              (to s.0, All-from_each (Agrees f newer) a.more (λ p c. (same p (behind old a.more mid a.grown p c)).forth (All-contains (Agrees f known) a.more p s.1 c)));
+              (to s.0, All-from_each (Agrees f newer) a.more (λ p c. (same p (after old a.more mid a.grown p c)).forth (All-contains (Agrees f known) a.more p s.1 c)));
           join = λ l all. a.join (fro l) (All-from_each (Agrees f known) mid (λ p c. (same p c).back (All-contains (Agrees f newer) mid p all c)));
         }

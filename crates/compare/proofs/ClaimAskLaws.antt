@@ -3,16 +3,17 @@ use Rattle.std.proofs.Common.{◌≡◌, ℕ, ◌+◌, ◌<◌, ◌≤◌, List,
 use Rattle.std.specs.List.{All}
 use Rattle.std.proofs.lemmas.List.{drop_all, drop_more}
 use Rattle.std.proofs.lemmas.List.Elements.{All-nil}
-use Rattle.theory.specs.Things.{Meanings}
-use Rattle.theory.specs.declared.claim.Form.{Form}
-use Rattle.theory.specs.declared.claim.Claim.{Claim}
-use Rattle.theory.specs.declared.rule.PartKind.{PartKind}
-use Rattle.theory.specs.Claims.{form_of, rows_of}
-use Rattle.rules.specs.Claims.{claimed}
-use Rattle.closures.specs.Tables.{Grows}
+use Rattle.trees.specs.Things.{Meanings}
+use Rattle.trees.specs.declared.claim.JudgementForm.{JudgementForm}
+use Rattle.trees.specs.declared.claim.Claim.{Claim}
+use Rattle.trees.specs.declared.kind.PartKind.{PartKind}
+use Rattle.trees.specs.Claims.{form_of, rows_of}
+use Rattle.trees.specs.Claimed.{claimed}
+use Rattle.rows.specs.Tables.{Grows}
 use Rattle.closures.specs.Environments.{Waiting}
 use Rattle.compare.specs.Pairs.{Asks, IsPair}
-use Rattle.compare.specs.Kinds.{IsOfKind, AreOfKinds, AreKindsOf}
+use Rattle.rows.specs.Views.{IsOfKind}
+use Rattle.compare.specs.Kinds.{AreOfKinds, AreKindsOf}
 use Rattle.compare.specs.declared.pairs.Pair.{Pair}
 use Rattle.compare.proofs.AskingLaws.{Asking, asking-begin, asking-next, asking-end, asking-no, asking-stand, asking-grows}
 use Rattle.compare.proofs.ClaimLaws.{rows-same, claims-same, kinds-length, kind-at, few-rows}
@@ -23,7 +24,7 @@ pub record Claims (f : Meanings) (known : List (List Waiting)) (c d : Claim) (ki
   pub right_kinds : AreOfKinds f kinds (rows_of d)
   pub asking : Asking f known (claimed f c ≡ claimed f d) (map f (drop at (rows_of c)) ≡ map f (drop at (rows_of d))) [] pairs
 
-pub claims-begin : (f : Meanings) (known : List (List Waiting)) (c d : Claim) (form : Form) (kinds : List PartKind) (pairs : List Pair) → AreKindsOf form kinds → form ≡ form_of c → form_of c ≡ form_of d → IsSome (claimed f c) → IsSome (claimed f d) → pairs ≡ [] → Claims f known c d kinds 0 pairs
+pub claims-begin : (f : Meanings) (known : List (List Waiting)) (c d : Claim) (form : JudgementForm) (kinds : List PartKind) (pairs : List Pair) → AreKindsOf form kinds → form ≡ form_of c → form_of c ≡ form_of d → IsSome (claimed f c) → IsSome (claimed f d) → pairs ≡ [] → Claims f known c d kinds 0 pairs
 claims-begin f known c d form kinds pairs are left same some other none = record {
   left_kinds = are f c (sym left) some;
   right_kinds = are f d (sym same ∙ sym left) other;

@@ -1,21 +1,22 @@
 -- Claims of one form say the same exactly where their rows mean the same.
 use Rattle.std.proofs.Common.{◌≡◌, ℕ, zero, suc, ◌<◌, ◌≤◌, List, [], ◌∷◌, length, get_or, map, refl, sym, ◌∙◌, ap, ap₂, arith, Option, Some, None, IsSome}
-use Rattle.theory.specs.Language.{Ctx, Ty, TyEq, Tm, TmEq, Sb}
-use Rattle.theory.specs.Judgements.{Judgement}
-use Rattle.theory.specs.Things.{Thing, ATree, ASubst, AContext, Meanings, both, listed, meanings}
-use Rattle.theory.specs.declared.claim.Form.{Form}
-use Rattle.theory.specs.declared.claim.Form.TheVariants as form
-use Rattle.theory.specs.declared.claim.Claim.{Claim}
-use Rattle.theory.specs.declared.claim.Claim.TheVariants as claim
-use Rattle.theory.specs.declared.rule.PartKind.{PartKind}
-use Rattle.theory.specs.Claims.{form_of as form_of_claim, rows_of}
-use Rattle.rules.specs.Schemas.{judged, said}
-use Rattle.rules.specs.Claims.{claimed}
-use Rattle.closures.proofs.OptionLaws.{one-some, both-some}
-use Rattle.compare.specs.Kinds.{IsOfKind, AreOfKinds}
+use Rattle.trees.specs.Language.{Ctx, Ty, TyEq, Tm, TmEq, Sb}
+use Rattle.trees.specs.Judgements.{Judgement}
+use Rattle.trees.specs.Things.{Thing, ATree, ASubst, AContext, Meanings, both, consed, meanings}
+use Rattle.trees.specs.declared.claim.JudgementForm.{JudgementForm}
+use Rattle.trees.specs.declared.claim.JudgementForm.TheVariants as form
+use Rattle.trees.specs.declared.claim.Claim.{Claim}
+use Rattle.trees.specs.declared.claim.Claim.TheVariants as claim
+use Rattle.trees.specs.declared.kind.PartKind.{PartKind}
+use Rattle.trees.specs.Claims.{form_of as form_of_claim, rows_of}
+use Rattle.trees.specs.Claimed.{judged, said}
+use Rattle.trees.specs.Claimed.{claimed}
+use Rattle.rows.proofs.OptionLaws.{one-some, both-some}
+use Rattle.rows.specs.Views.{IsOfKind}
+use Rattle.compare.specs.Kinds.{AreOfKinds}
 
 -- the form and the things of a judgement
-abbrev pub form_of : Judgement → Form
+abbrev pub form_of : Judgement → JudgementForm
 form_of (Ctx G) = form.Ctx
 form_of (Ty G A) = form.Ty
 form_of (TyEq G A B) = form.TyEq
@@ -31,11 +32,11 @@ things_of (Tm G a A) = AContext G ∷ ATree a ∷ ATree A ∷ []
 things_of (TmEq G a b A) = AContext G ∷ ATree a ∷ ATree b ∷ ATree A ∷ []
 things_of (Sb H d G) = AContext H ∷ ASubst d ∷ AContext G ∷ []
 
-pub record IsOf (f : Form) (xs : List Thing) (J : Judgement) : Type 0 where
+pub record IsOf (f : JudgementForm) (xs : List Thing) (J : Judgement) : Type 0 where
   pub form : form_of J ≡ f
   pub things : things_of J ≡ xs
 
-is_of : (f : Form) (xs : List Thing) (J : Judgement) → judged f xs ≡ Some J → IsOf f xs J
+is_of : (f : JudgementForm) (xs : List Thing) (J : Judgement) → judged f xs ≡ Some J → IsOf f xs J
 is_of form.Ctx (AContext G ∷ []) J e = let p : Ctx G ≡ J = cc in rw (sym p) (record { form = refl; things = refl })
 is_of form.Ty (AContext G ∷ ATree A ∷ []) J e = let p : Ty G A ≡ J = cc in rw (sym p) (record { form = refl; things = refl })
 is_of form.TyEq (AContext G ∷ ATree A ∷ ATree B ∷ []) J e = let p : TyEq G A B ≡ J = cc in rw (sym p) (record { form = refl; things = refl })
@@ -66,17 +67,17 @@ each-means : (m : Meanings) (ks : List ℕ) (xs : List Thing) → meanings m ks 
 each-means m [] [] e = refl
 each-means m [] (x ∷ xs) e = cc
 each-means m (k ∷ ks) xs e =
-    let b = both-some listed (m k) (meanings m ks) xs e in
+    let b = both-some consed (m k) (meanings m ks) xs e in
     let whole : b.first ∷ b.second ≡ xs = cc in
     ap₂ (λ o os. o ∷ os) b.first_is (each-means m ks b.second b.second_is) ∙ ap (map Some) whole
 
 abbrev all_there : List (Option Thing) → Option (List Thing)
 all_there [] = Some []
-all_there (o ∷ os) = both listed o (all_there os)
+all_there (o ∷ os) = both consed o (all_there os)
 
 meanings-map : (m : Meanings) (ks : List ℕ) → meanings m ks ≡ all_there (map m ks)
 meanings-map m [] = refl
-meanings-map m (k ∷ ks) = ap (both listed (m k)) (meanings-map m ks)
+meanings-map m (k ∷ ks) = ap (both consed (m k)) (meanings-map m ks)
 
 -- of one form: the same exactly where the rows mean the same
 

@@ -1,37 +1,37 @@
 -- The kids of one operator on both sides of a pair.
 use Rattle.std.proofs.Common.{◌≡◌, ℕ, zero, suc, ◌+◌, ◌<◌, ◌≤◌, List, [], ◌∷◌, ◌++◌, length, take, map, get_or, refl, sym, ◌∙◌, ap, ap₂, arith, Option, Some, None, append_assoc}
-use Rattle.std.specs.Prelude.{slice_get}
+use Rattle.std.specs.Prelude.{slice_get, option_and_then}
 use Rattle.std.specs.List.{All, Contains}
-use Rattle.std.proofs.lemmas.List.{append-nil}
+use Rattle.std.proofs.lemmas.List.{append-nil, length-map}
 use Rattle.std.proofs.lemmas.List.Elements.{All-nil, All-push, All-head, All-tail, Contains-append_left, Contains-push}
-use Rattle.theory.specs.declared.op.Op.{Op}
-use Rattle.theory.specs.Operators.{binds_of}
-use Rattle.theory.specs.Trees.{Tree, Var, Make, trees_of}
-use Rattle.theory.specs.Things.{Thing, ATree, ASubst, AContext, Meanings, one, both, listed as both_listed, only_trees, made}
+use Rattle.trees.specs.declared.op.Op.{Op}
+use Rattle.trees.specs.Operators.{binds_of, kids_of}
+use Rattle.trees.specs.Trees.{Tree, Var, Make, trees_of}
+use Rattle.trees.specs.Things.{Thing, ATree, ASubst, AContext, Meanings, consed, only_trees, over_kids, made}
 use Rattle.closures.specs.Environments.{Waiting, deepened}
-use Rattle.closures.specs.Closures.{under, delays, closure_meaning, kid_meanings}
-use Rattle.closures.specs.Rows.{IsTree}
-use Rattle.closures.proofs.HeadLaws.{kid_meanings-trees}
+use Rattle.closures.specs.Closures.{under, delays, closure_meaning, kid_things, all_there}
+use Rattle.rows.proofs.OptionLaws.{one-some, both-some}
+use Rattle.rows.proofs.MeaningLaws.{over_kids-is}
+use Rattle.rows.specs.Views.{IsTree}
+use Rattle.closures.proofs.HeadLaws.{kid_things-trees}
 use Rattle.compare.specs.Pairs.{Agrees, Adds, IsOne, IsThere, IsNew, Opens, size, sizes, size_of, pair_size, total}
-use Rattle.compare.specs.Kids.{kid_things, sum_of_sizes, KidsOpen}
+use Rattle.compare.specs.Kids.{sum_of_sizes, KidsOpen}
 use Rattle.compare.specs.declared.pairs.Pair.{Pair}
 
 -- kids that mean trees
 
-kids-each : (f : Meanings) (ws : List Waiting) (op : Op) (at : ℕ) (ks : List ℕ) (xs : List Thing) → kid_meanings f ws op at ks ≡ Some xs → kid_things f ws op at ks ≡ map Some xs
-kids-each f ws op at [] xs e = let p : [] ≡ xs = cc in ap (map Some) p
-kids-each f ws op at (k ∷ ks) xs e = from (under (f k) (delays f (deepened (binds_of op at) ws))) (kid_meanings f ws op (suc at) ks) refl refl e (kids-each f ws op (suc at) ks)
-  where
-    from : (o : Option Thing) (r : Option (List Thing)) → under (f k) (delays f (deepened (binds_of op at) ws)) ≡ o → kid_meanings f ws op (suc at) ks ≡ r → both both_listed o r ≡ Some xs → ((ys : List Thing) → kid_meanings f ws op (suc at) ks ≡ Some ys → kid_things f ws op (suc at) ks ≡ map Some ys) → kid_things f ws op at (k ∷ ks) ≡ map Some xs
-    from None r eo er e below = cc
-    from (Some x) None eo er e below = cc
-    from (Some x) (Some ys) eo er e below = let p : x ∷ ys ≡ xs = cc in ap₂ ◌∷◌ eo (below ys er) ∙ ap (map Some) p
+there-each : (os : List (Option Thing)) (xs : List Thing) → all_there os ≡ Some xs → os ≡ map Some xs
+there-each [] xs e = let p : [] ≡ xs = cc in ap (map Some) p
+there-each (o ∷ os) xs e =
+    let b = both-some consed o (all_there os) xs e in
+    let p : b.first ∷ b.second ≡ xs = cc (b.whole) in
+    ap₂ ◌∷◌ b.first_is (there-each os b.second b.second_is) ∙ ap (map Some) p
 
 only-all : (xs : List Thing) (ts : List Tree) → only_trees xs ≡ Some ts → xs ≡ map ATree ts
 only-all [] ts e = let p : [] ≡ ts = cc in ap (map ATree) p
 only-all (ATree t ∷ xs) ts e = from (only_trees xs) refl e (only-all xs)
   where
-    from : (r : Option (List Tree)) → only_trees xs ≡ r → one (λ us. Some (t ∷ us)) r ≡ Some ts → ((us : List Tree) → only_trees xs ≡ Some us → xs ≡ map ATree us) → ATree t ∷ xs ≡ map ATree ts
+    from : (r : Option (List Tree)) → only_trees xs ≡ r → option_and_then (λ us. Some (t ∷ us)) r ≡ Some ts → ((us : List Tree) → only_trees xs ≡ Some us → xs ≡ map ATree us) → ATree t ∷ xs ≡ map ATree ts
     from None er e below = cc
     from (Some us) er e below = let p : t ∷ us ≡ ts = cc in ap (λ ys. ATree t ∷ ys) (below us er) ∙ ap (map ATree) p
 only-all (ASubst d ∷ xs) ts e = cc
@@ -49,17 +49,25 @@ pub record MadeOfKids (f : Meanings) (ws : List Waiting) (op : Op) (ks : List �
   pub things : kid_things f ws op 0 ks ≡ map Some (map ATree trees)
   pub whole : t ≡ Make op (trees_of trees)
   pub rows : All (λ k. IsTree (f k)) ks
+  pub count : length ks ≡ kids_of op
 
-pub made_of_kids : (f : Meanings) (ws : List Waiting) (op : Op) (ks : List ℕ) (t : Tree) → one (made op) (kid_meanings f ws op 0 ks) ≡ Some (ATree t) → MadeOfKids f ws op ks t
-made_of_kids f ws op ks t e = from (kid_meanings f ws op 0 ks) refl e
-  where
-    trees : (xs : List Thing) (r : Option (List Tree)) → kid_meanings f ws op 0 ks ≡ Some xs → only_trees xs ≡ r → one (λ ts. Some (ATree (Make op (trees_of ts)))) r ≡ Some (ATree t) → MadeOfKids f ws op ks t
-    trees xs None e er m = cc
-    trees xs (Some ts) e er m = record { trees = ts; things = kids-each f ws op 0 ks xs e ∙ ap (map Some) (only-all xs ts er); whole = cc; rows = kid_meanings-trees f ws op 0 ks xs e }
+pub kid_things-length : (f : Meanings) (ws : List Waiting) (op : Op) (at : ℕ) (ks : List ℕ) → length (kid_things f ws op at ks) ≡ length ks
+kid_things-length f ws op at [] = refl
+kid_things-length f ws op at (k ∷ ks) = ap suc (kid_things-length f ws op (suc at) ks)
 
-    from : (r : Option (List Thing)) → kid_meanings f ws op 0 ks ≡ r → one (made op) r ≡ Some (ATree t) → MadeOfKids f ws op ks t
-    from None er e = cc
-    from (Some xs) er e = trees xs (only_trees xs) er refl e
+pub made_of_kids : (f : Meanings) (ws : List Waiting) (op : Op) (ks : List ℕ) (t : Tree) → option_and_then (made op) (all_there (kid_things f ws op 0 ks)) ≡ Some (ATree t) → MadeOfKids f ws op ks t
+made_of_kids f ws op ks t e =
+    let m = one-some (made op) (all_there (kid_things f ws op 0 ks)) (ATree t) e in
+    let o = one-some (over_kids op) (only_trees m.first) (ATree t) m.whole in
+    let over = over_kids-is op o.first (ATree t) o.whole in
+    let things = there-each (kid_things f ws op 0 ks) m.first m.first_is ∙ ap (map Some) (only-all m.first o.first o.first_is) in
+    record {
+      trees = o.first;
+      things = things;
+      whole = cc (over.1);
+      rows = kid_things-trees f ws op 0 ks m.first m.first_is;
+      count = sym (kid_things-length f ws op 0 ks) ∙ ap length things ∙ length-map (map ATree o.first) Some ∙ length-map o.first ATree ∙ over.0;
+    }
 
 sum-trees : (ts : List Tree) → sum_of_sizes (map Some (map ATree ts)) ≡ sizes (trees_of ts)
 sum-trees [] = refl
@@ -136,9 +144,9 @@ module _ (f : Meanings) (known : List (List Waiting)) (lefts rights : List (Opti
   rs = rights ++ y ∷ []
 
   -- the pair agrees where it stands among pairs that agree, or is of one closure
-  kids-behind : (old cur new : List Pair) → KidsOpen f known lefts rights old cur → ((n : ℕ) → sum_of_sizes ls ≤ n → ((q : Pair) → Contains new q → pair_size f known q ≤ n → Agrees f known q) → x ≡ y) → ((q : Pair) → Contains cur q → Contains new q)
+  kids-after : (old cur new : List Pair) → KidsOpen f known lefts rights old cur → ((n : ℕ) → sum_of_sizes ls ≤ n → ((q : Pair) → Contains new q → pair_size f known q ≤ n → Agrees f known q) → x ≡ y) → ((q : Pair) → Contains cur q → Contains new q)
       → (n : ℕ) → sum_of_sizes ls ≤ n → ((q : Pair) → Contains new q → pair_size f known q ≤ n → Agrees f known q) → ls ≡ rs
-  kids-behind old cur new k last within n le smaller =
+  kids-after old cur new k last within n le smaller =
       let s = sum-append lefts (x ∷ []) in
       ap₂ (λ zs b. zs ++ b ∷ []) (k.back n (omega arith) (λ q c. smaller q (within q c))) (last n le smaller)
 
@@ -153,7 +161,7 @@ module _ (f : Meanings) (known : List (List Waiting)) (lefts rights : List (Opti
         more = k.more;
         grown = e ∙ k.grown;
         forth = λ h. k.forth (push-same lefts rights x y h).0;
-        back = kids-behind old cur new k (λ n le smaller. sym left ∙ ap (closure_meaning f known) same ∙ right) (λ q c. rw e c);
+        back = kids-after old cur new k (λ n le smaller. sym left ∙ ap (closure_meaning f known) same ∙ right) (λ q c. rw e c);
         less = omega arith;
       }
   kids-more old cur new k (IsThere there e) =
@@ -163,7 +171,7 @@ module _ (f : Meanings) (known : List (List Waiting)) (lefts rights : List (Opti
         more = k.more;
         grown = e ∙ k.grown;
         forth = λ h. k.forth (push-same lefts rights x y h).0;
-        back = kids-behind old cur new k (λ n le smaller. sym left ∙ smaller p (rw e there) (fits n le) ∙ right) (λ q c. rw e c);
+        back = kids-after old cur new k (λ n le smaller. sym left ∙ smaller p (rw e there) (fits n le) ∙ right) (λ q c. rw e c);
         less = omega arith;
       }
   kids-more old cur new k (IsNew e) =
@@ -175,7 +183,7 @@ module _ (f : Meanings) (known : List (List Waiting)) (lefts rights : List (Opti
         more = k.more ++ p ∷ [];
         grown = e ∙ ap (λ ps. ps ++ p ∷ []) k.grown ∙ append_assoc old k.more (p ∷ []);
         forth = λ h. let g = push-same lefts rights x y h in All-push (Agrees f known) k.more p (k.forth g.0) (left ∙ g.1 ∙ sym right);
-        back = kids-behind old cur new k (λ n le smaller. sym left ∙ smaller p (rw e (Contains-push cur p)) (fits n le) ∙ right) (λ q c. rw e (Contains-append_left cur (p ∷ []) q c));
+        back = kids-after old cur new k (λ n le smaller. sym left ∙ smaller p (rw e (Contains-push cur p)) (fits n le) ∙ right) (λ q c. rw e (Contains-append_left cur (p ∷ []) q c));
         less = omega arith;
       }
 

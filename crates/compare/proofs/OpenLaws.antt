@@ -1,16 +1,16 @@
 -- The heads of both closures of a pair.
-use Rattle.std.proofs.Common.{◌≡◌, ℕ, Bool, true, false, not, List, [], take, refl, sym, ◌∙◌, ap, arith, Some}
+use Rattle.std.specs.Prelude.{option_and_then}
+use Rattle.std.proofs.Common.{◌≡◌, ℕ, Bool, true, false, not, Bor, List, [], refl, sym, ◌∙◌, ap, arith, Some}
 use Rattle.std.proofs.lemmas.List.{append-nil}
 use Rattle.std.proofs.lemmas.List.Elements.{All-nil}
-use Rattle.theory.specs.declared.op.Op.{Op}
-use Rattle.theory.specs.Operators.{kids_of}
-use Rattle.theory.specs.Trees.{Var}
-use Rattle.theory.specs.Things.{ATree, Meanings, one, made}
+use Rattle.trees.specs.declared.op.Op.{Op}
+use Rattle.trees.specs.Trees.{Var}
+use Rattle.trees.specs.Things.{ATree, Meanings, made}
 use Rattle.substitution.specs.Delayed.{closed}
-use Rattle.closures.specs.Rows.{IsTree}
-use Rattle.closures.specs.Tables.{Grows}
+use Rattle.rows.specs.Views.{IsTree}
+use Rattle.rows.specs.Tables.{Grows}
 use Rattle.closures.specs.Environments.{Waiting, listed}
-use Rattle.closures.specs.Closures.{IsClosure, HeadStands, closure_meaning, head_meaning, kid_meanings, under, delays}
+use Rattle.closures.specs.Closures.{IsClosure, HeadStands, closure_meaning, head_meaning, kid_things, all_there, under, delays}
 use Rattle.compare.specs.Pairs.{Agrees, IsPair, Opens, pair_size, size_of}
 use Rattle.compare.specs.Kids.{kids_meant, KidsStand, KidsOpen}
 use Rattle.closures.specs.declared.environments.Environment.{Environment}
@@ -19,14 +19,14 @@ use Rattle.closures.specs.declared.heads.Head.{Head}
 use Rattle.closures.specs.declared.heads.Head.TheVariants as head
 use Rattle.compare.specs.declared.pairs.Pair.{Pair}
 use Rattle.closures.proofs.EnvironmentLaws.{listed-grows}
-use Rattle.closures.proofs.TableLaws.{grows-grows}
+use Rattle.rows.proofs.TableLaws.{grows-grows}
 use Rattle.closures.proofs.HeadLaws.{stands-grows, closure_meaning-grows, closure-grows}
 use Rattle.compare.proofs.StandLaws.{is_pair-grows, SamePair, same_pair}
 use Rattle.compare.proofs.KidLaws.{MadeOfKids, made_of_kids, both_kids, opens-kids, other_operator, no_variable}
 
 head-grows : (f : Meanings) (old new : List (List Waiting)) (n : ℕ) (h : Head) → Grows old new → HeadStands f old n h → head_meaning f new h ≡ head_meaning f old h
 head-grows f old new n (head.Var k) g s = refl
-head-grows f old new n (head.Make op cells e) g s = ap (λ ws. one (made op) (kid_meanings f ws op 0 (take (kids_of op) cells))) (listed-grows old new e g s.within)
+head-grows f old new n (head.Make op cells e) g s = ap (λ ws. option_and_then (made op) (all_there (kid_things f ws op 0 cells.now))) (listed-grows old new e g s.within)
 
 head_stands-grows : (f : Meanings) (old new : List (List Waiting)) (n : ℕ) (h : Head) → Grows old new → HeadStands f old n h → HeadStands f new n h
 head_stands-grows f old new n (head.Var k) g s = tt
@@ -67,21 +67,21 @@ heads f old mid known n p left right s g h left_is left_stands right_is right_st
 
 -- an operator on one side
 
-pub made_left : (f : Meanings) (old known : List (List Waiting)) (p : Pair) (op : Op) (cells : List ℕ) (e : Environment) (right : Head) → (h : Heads f old known p (head.Make op cells e) right) → MadeOfKids f (listed known e) op (take (kids_of op) cells) h.left_tree.0
-made_left f old known p op cells e right h = made_of_kids f (listed known e) op (take (kids_of op) cells) h.left_tree.0 (h.left_is ∙ h.left_tree.1)
+pub made_left : (f : Meanings) (old known : List (List Waiting)) (p : Pair) (op : Op) (cells : Bor (List ℕ)) (e : Environment) (right : Head) → (h : Heads f old known p (head.Make op cells e) right) → MadeOfKids f (listed known e) op cells.now h.left_tree.0
+made_left f old known p op cells e right h = made_of_kids f (listed known e) op cells.now h.left_tree.0 (h.left_is ∙ h.left_tree.1)
 
-pub made_right : (f : Meanings) (old known : List (List Waiting)) (p : Pair) (op : Op) (cells : List ℕ) (e : Environment) (left : Head) → (h : Heads f old known p left (head.Make op cells e)) → MadeOfKids f (listed known e) op (take (kids_of op) cells) h.right_tree.0
-made_right f old known p op cells e left h = made_of_kids f (listed known e) op (take (kids_of op) cells) h.right_tree.0 (h.right_is ∙ h.right_tree.1)
+pub made_right : (f : Meanings) (old known : List (List Waiting)) (p : Pair) (op : Op) (cells : Bor (List ℕ)) (e : Environment) (left : Head) → (h : Heads f old known p left (head.Make op cells e)) → MadeOfKids f (listed known e) op cells.now h.right_tree.0
+made_right f old known p op cells e left h = made_of_kids f (listed known e) op cells.now h.right_tree.0 (h.right_is ∙ h.right_tree.1)
 
-pub kids-stand-left : (f : Meanings) (old known : List (List Waiting)) (n : ℕ) (p : Pair) (op : Op) (cells : List ℕ) (e : Environment) (right : Head) → Heads f old known p (head.Make op cells e) right → IsPair f old n p → KidsStand f known n op cells e
+pub kids-stand-left : (f : Meanings) (old known : List (List Waiting)) (n : ℕ) (p : Pair) (op : Op) (cells : Bor (List ℕ)) (e : Environment) (right : Head) → Heads f old known p (head.Make op cells e) right → IsPair f old n p → KidsStand f known n op cells.now e
 kids-stand-left f old known n p op cells e right h s =
     let m = made_left f old known p op cells e right h in
-    record { rows = m.rows; environment_stands = h.left_stands n s }
+    record { rows = m.rows; count = m.count; environment_stands = h.left_stands n s }
 
-pub kids-stand-right : (f : Meanings) (old known : List (List Waiting)) (n : ℕ) (p : Pair) (op : Op) (cells : List ℕ) (e : Environment) (left : Head) → Heads f old known p left (head.Make op cells e) → IsPair f old n p → KidsStand f known n op cells e
+pub kids-stand-right : (f : Meanings) (old known : List (List Waiting)) (n : ℕ) (p : Pair) (op : Op) (cells : Bor (List ℕ)) (e : Environment) (left : Head) → Heads f old known p left (head.Make op cells e) → IsPair f old n p → KidsStand f known n op cells.now e
 kids-stand-right f old known n p op cells e left h s =
     let m = made_right f old known p op cells e left h in
-    record { rows = m.rows; environment_stands = h.right_stands n s }
+    record { rows = m.rows; count = m.count; environment_stands = h.right_stands n s }
 
 -- both trees are one where the pair agrees
 trees-agree : (f : Meanings) (old known : List (List Waiting)) (p : Pair) (left right : Head) → (h : Heads f old known p left right) → Agrees f old p → h.left_tree.0 ≡ h.right_tree.0
@@ -89,23 +89,23 @@ trees-agree f old known p left right h a =
     let e : Some (ATree h.left_tree.0) ≡ Some (ATree h.right_tree.0) = sym h.left_tree.1 ∙ h.same.forth a ∙ h.right_tree.1 in
     cc
 
-pub operators-agree : (f : Meanings) (old known : List (List Waiting)) (p : Pair) (op other : Op) (cells others : List ℕ) (e d : Environment) → Heads f old known p (head.Make op cells e) (head.Make other others d) → Agrees f old p → op ≡ other
+pub operators-agree : (f : Meanings) (old known : List (List Waiting)) (p : Pair) (op other : Op) (cells others : Bor (List ℕ)) (e d : Environment) → Heads f old known p (head.Make op cells e) (head.Make other others d) → Agrees f old p → op ≡ other
 operators-agree f old known p op other cells others e d h a =
-    other_operator f (listed known e) (listed known d) op other (take (kids_of op) cells) (take (kids_of other) others) h.left_tree.0 h.right_tree.0
+    other_operator f (listed known e) (listed known d) op other cells.now others.now h.left_tree.0 h.right_tree.0
     (made_left f old known p op cells e (head.Make other others d) h) (made_right f old known p other others d (head.Make op cells e) h)
     (trees-agree f old known p (head.Make op cells e) (head.Make other others d) h a)
 
-pub variable-left : (f : Meanings) (old known : List (List Waiting)) (p : Pair) (k : ℕ) (op : Op) (cells : List ℕ) (e : Environment) → Heads f old known p (head.Var k) (head.Make op cells e) → Agrees f old p → ⊥
+pub variable-left : (f : Meanings) (old known : List (List Waiting)) (p : Pair) (k : ℕ) (op : Op) (cells : Bor (List ℕ)) (e : Environment) → Heads f old known p (head.Var k) (head.Make op cells e) → Agrees f old p → ⊥
 variable-left f old known p k op cells e h a =
     let v : Some (ATree (Var k)) ≡ Some (ATree h.left_tree.0) = h.left_is ∙ h.left_tree.1 in
     let w : Var k ≡ h.left_tree.0 = cc in
-    no_variable f (listed known e) op (take (kids_of op) cells) h.right_tree.0 k (made_right f old known p op cells e (head.Var k) h) (w ∙ trees-agree f old known p (head.Var k) (head.Make op cells e) h a)
+    no_variable f (listed known e) op cells.now h.right_tree.0 k (made_right f old known p op cells e (head.Var k) h) (w ∙ trees-agree f old known p (head.Var k) (head.Make op cells e) h a)
 
-pub variable-right : (f : Meanings) (old known : List (List Waiting)) (p : Pair) (k : ℕ) (op : Op) (cells : List ℕ) (e : Environment) → Heads f old known p (head.Make op cells e) (head.Var k) → Agrees f old p → ⊥
+pub variable-right : (f : Meanings) (old known : List (List Waiting)) (p : Pair) (k : ℕ) (op : Op) (cells : Bor (List ℕ)) (e : Environment) → Heads f old known p (head.Make op cells e) (head.Var k) → Agrees f old p → ⊥
 variable-right f old known p k op cells e h a =
     let v : Some (ATree (Var k)) ≡ Some (ATree h.right_tree.0) = h.right_is ∙ h.right_tree.1 in
     let w : Var k ≡ h.right_tree.0 = cc in
-    no_variable f (listed known e) op (take (kids_of op) cells) h.left_tree.0 k (made_left f old known p op cells e (head.Var k) h) (w ∙ sym (trees-agree f old known p (head.Make op cells e) (head.Var k) h a))
+    no_variable f (listed known e) op cells.now h.left_tree.0 k (made_left f old known p op cells e (head.Var k) h) (w ∙ sym (trees-agree f old known p (head.Make op cells e) (head.Var k) h a))
 
 -- variables on both sides
 pub variables-agree : (f : Meanings) (old known : List (List Waiting)) (p : Pair) (k l : ℕ) → Heads f old known p (head.Var k) (head.Var l) → Agrees f old p → k ≡ l
@@ -125,11 +125,11 @@ variables-open f old known p pairs k l h e =
     }
 
 -- one operator on both sides
-pub operators-open : (f : Meanings) (old known : List (List Waiting)) (p : Pair) (op other : Op) (cells others : List ℕ) (e d : Environment) (pairs new : List Pair) → op ≡ other → Heads f old known p (head.Make op cells e) (head.Make other others d) → KidsOpen f known (kids_meant f known op cells e) (kids_meant f known op others d) pairs new → Opens f known p pairs new
+pub operators-open : (f : Meanings) (old known : List (List Waiting)) (p : Pair) (op other : Op) (cells others : Bor (List ℕ)) (e d : Environment) (pairs new : List Pair) → op ≡ other → Heads f old known p (head.Make op cells e) (head.Make other others d) → KidsOpen f known (kids_meant f known op cells.now e) (kids_meant f known op others.now d) pairs new → Opens f known p pairs new
 operators-open f old known p op other cells others e d pairs new same h k =
-    let r : MadeOfKids f (listed known d) op (take (kids_of op) others) h.right_tree.0 = rw same (made_right f old known p other others d (head.Make op cells e) h) in
-    opens-kids f known p (kids_meant f known op cells e) (kids_meant f known op others d) pairs new
-    (both_kids f known p op (listed known e) (listed known d) (take (kids_of op) cells) (take (kids_of op) others) h.left_tree.0 h.right_tree.0 h.left_tree.1 h.right_tree.1
+    let r : MadeOfKids f (listed known d) op others.now h.right_tree.0 = rw same (made_right f old known p other others d (head.Make op cells e) h) in
+    opens-kids f known p (kids_meant f known op cells.now e) (kids_meant f known op others.now d) pairs new
+    (both_kids f known p op (listed known e) (listed known d) cells.now others.now h.left_tree.0 h.right_tree.0 h.left_tree.1 h.right_tree.1
     (made_left f old known p op cells e (head.Make other others d) h) r)
     k
 

@@ -2,8 +2,8 @@
 use Rattle.std.proofs.Common.{◌≡◌, ℕ, ◌≤◌, List, [], ◌∷◌, ◌++◌, length, drop, refl, sym, ◌∙◌, ap}
 use Rattle.std.specs.List.{All}
 use Rattle.std.proofs.lemmas.List.Elements.{All-nil, All-push, All-same}
-use Rattle.theory.specs.Things.{Meanings}
-use Rattle.closures.specs.Tables.{Grows}
+use Rattle.trees.specs.Things.{Meanings}
+use Rattle.rows.specs.Tables.{Grows}
 use Rattle.closures.specs.Environments.{Waiting}
 use Rattle.compare.specs.Pairs.{Agrees, Adds, IsOne, IsThere, IsNew, IsPair, pair_size, size_of}
 use Rattle.compare.specs.declared.pairs.Pair.{Pair}
@@ -31,7 +31,7 @@ same_pair f old new n p g s =
       size_is = ap size_of (sym l);
     }
 
--- pairs behind the first ones
+-- pairs after the first ones
 
 pub drop-length : {X : Type 0} (xs ys : List X) → drop (length xs) (xs ++ ys) ≡ ys
 drop-length [] ys = refl
@@ -41,13 +41,13 @@ drop-all : {X : Type 0} (xs : List X) → drop (length xs) xs ≡ []
 drop-all [] = refl
 drop-all (x ∷ xs) = drop-all xs
 
-pub behind-none : {X : Type 0} (Q : X → Type 0) (xs : List X) → All Q (drop (length xs) xs)
-behind-none Q xs = rw (drop-all xs) (All-nil Q)
+pub after-none : {X : Type 0} (Q : X → Type 0) (xs : List X) → All Q (drop (length xs) xs)
+after-none Q xs = rw (drop-all xs) (All-nil Q)
 
-pub behind-more : (Q : Pair → Type 0) (old more cur new : List Pair) (p : Pair) → cur ≡ old ++ more → Adds p cur new → Q p → All Q (drop (length old) cur) → All Q (drop (length old) new)
-behind-more Q old more cur new p grown (IsOne same e) q all = rw e all
-behind-more Q old more cur new p grown (IsThere there e) q all = rw e all
-behind-more Q old more cur new p grown (IsNew e) q all =
+pub after-more : (Q : Pair → Type 0) (old more cur new : List Pair) (p : Pair) → cur ≡ old ++ more → Adds p cur new → Q p → All Q (drop (length old) cur) → All Q (drop (length old) new)
+after-more Q old more cur new p grown (IsOne same e) q all = rw e all
+after-more Q old more cur new p grown (IsThere there e) q all = rw e all
+after-more Q old more cur new p grown (IsNew e) q all =
     let whole : drop (length old) new ≡ drop (length old) cur ++ p ∷ [] = rw (e, grown) (drop-more old more) in
     All-same Q _ _ whole (All-push Q (drop (length old) cur) p all q)
   where

@@ -2,22 +2,22 @@
 use Rattle.std.proofs.Common.{◌+◌, length-append, ◌≡◌, ℕ, ◌<◌, List, [], length, refl, sym, ◌∙◌, ap, ap₂, arith, Option, Some}
 use Rattle.std.specs.List.{All}
 use Rattle.std.proofs.lemmas.List.Elements.{All-nil, All-same, All-contains}
-use Rattle.theory.specs.Trees.{Tree, NoTrees, More, Subst, push, shift_by}
-use Rattle.theory.specs.Things.{Thing, ATree, ASubst, Meanings, both, pushed_on}
-use Rattle.substitution.specs.Action.{count_of}
+use Rattle.trees.specs.Trees.{Tree, NoTrees, More, Subst, push, shift_by}
+use Rattle.trees.specs.Things.{Thing, ATree, ASubst, Meanings, both, pushed_on}
+use Rattle.trees.specs.Trees.{count_of}
 use Rattle.substitution.proofs.ThenLaws.{then-id}
-use Rattle.closures.specs.Rows.{IsSubst}
-use Rattle.closures.specs.Tables.{Grows}
+use Rattle.rows.specs.Views.{IsSubst}
+use Rattle.rows.specs.Tables.{Grows}
 use Rattle.closures.specs.Environments.{Waiting, listed}
 use Rattle.closures.specs.Closures.{closure_meaning, IsClosure}
-use Rattle.closures.specs.Substs.{followed_by, waiting_substs, subst_closure_meaning, subst_head_meaning, IsPlain, IsSubstClosure, SubstHeadStands}
+use Rattle.closures.specs.Substs.{followed_by, waiting_substs, subst_closure_meaning, subst_head_meaning, IsPlainSubst, IsSubstClosure, SubstHeadStands}
 use Rattle.closures.specs.declared.environments.Environment.TheVariants as env
 use Rattle.closures.specs.declared.closure.Closure.{Closure}
 use Rattle.closures.specs.declared.substs.SubstClosure.{SubstClosure}
 use Rattle.closures.specs.declared.substs.SubstHead.{SubstHead}
 use Rattle.closures.specs.declared.substs.SubstHead.TheVariants.{Shift, Push}
 use Rattle.closures.proofs.EnvironmentLaws.{listed-grows, is_before-more}
-use Rattle.closures.proofs.TableLaws.{grows-same, grows-grows}
+use Rattle.rows.proofs.TableLaws.{grows-same, grows-grows}
 use Rattle.compare.specs.Pairs.{Asks, IsPair}
 use Rattle.compare.specs.declared.pairs.Pair.{Pair}
 use Rattle.closures.proofs.HeadLaws.{closure_meaning-grows, closure-grows}
@@ -28,30 +28,30 @@ use Rattle.compare.proofs.AskingLaws.{Asking, asking-begin, asking-next, asking-
 
 -- a row as it is
 
-pub subst_row-meaning : (f : Meanings) (known : List (List Waiting)) (row : ℕ) (c : SubstClosure) → c.row ≡ row → c.environment ≡ env.Empty → IsSubst (f row) → subst_closure_meaning f known c ≡ f row
+pub subst_row-meaning : (f : Meanings) (known : List (List Waiting)) (row : ℕ) (c : SubstClosure) → c.row.0 ≡ row → c.environment ≡ env.Empty → IsSubst (f row) → subst_closure_meaning f known c ≡ f row
 subst_row-meaning f known row c is none subst =
     ap₂ (λ k e. followed_by (f k) (waiting_substs f (listed known e))) is none
     ∙ ap (λ o. followed_by o []) subst.1
     ∙ ap (λ d. Some (ASubst d)) (then-id subst.0)
     ∙ sym subst.1
 
-pub subst_row-stands : (f : Meanings) (known : List (List Waiting)) (row : ℕ) (c : SubstClosure) → c.row ≡ row → c.environment ≡ env.Empty → IsSubst (f row) → IsSubstClosure f known c
+pub subst_row-stands : (f : Meanings) (known : List (List Waiting)) (row : ℕ) (c : SubstClosure) → c.row.0 ≡ row → c.environment ≡ env.Empty → IsSubst (f row) → IsSubstClosure f known c
 subst_row-stands f known row c is none subst = record {
   row = rw is subst;
   within = rw none refl;
-  plain = rw none (All-nil (IsPlain f));
+  plain = rw none (All-nil (IsPlainSubst f));
 }
 
 -- more nodes
 
 pub subst_closure-grows : (f : Meanings) (old new : List (List Waiting)) (c : SubstClosure) → Grows old new → IsSubstClosure f old c → subst_closure_meaning f new c ≡ subst_closure_meaning f old c
-subst_closure-grows f old new c g s = ap (λ ws. followed_by (f c.row) (waiting_substs f ws)) (listed-grows old new c.environment g s.within)
+subst_closure-grows f old new c g s = ap (λ ws. followed_by (f c.row.0) (waiting_substs f ws)) (listed-grows old new c.environment g s.within)
 
 pub is_subst_closure-grows : (f : Meanings) (old new : List (List Waiting)) (c : SubstClosure) → Grows old new → IsSubstClosure f old c → IsSubstClosure f new c
 is_subst_closure-grows f old new c g s = record {
   row = s.row;
   within = is_before-more (length old) (length new) c.environment (let size : length new ≡ length old + length g.0 = ap length g.1 ∙ length-append old g.0 in omega arith) s.within;
-  plain = All-same (IsPlain f) (listed new c.environment) (listed old c.environment) (listed-grows old new c.environment g s.within) s.plain;
+  plain = All-same (IsPlainSubst f) (listed new c.environment) (listed old c.environment) (listed-grows old new c.environment g s.within) s.plain;
 }
 
 subst_head-grows : (f : Meanings) (old new : List (List Waiting)) (h : SubstHead) → Grows old new → SubstHeadStands f old h → subst_head_meaning f new h ≡ subst_head_meaning f old h
@@ -132,7 +132,7 @@ pub record Substs (f : Meanings) (start : List (List Waiting)) (goal : Type 0) (
   pub stand : All (IsPair f known 0) old
   pub asking : Asking f known goal (subst_closure_meaning f known left ≡ subst_closure_meaning f known right) old pairs
 
-pub substs-begin : (f : Meanings) (known : List (List Waiting)) (left right : ℕ) (first second : SubstClosure) (pairs : List Pair) → first.row ≡ left → first.environment ≡ env.Empty → second.row ≡ right → second.environment ≡ env.Empty → IsSubst (f left) → IsSubst (f right) → All (IsPair f known 0) pairs → Substs f known (f left ≡ f right) pairs known first second pairs
+pub substs-begin : (f : Meanings) (known : List (List Waiting)) (left right : ℕ) (first second : SubstClosure) (pairs : List Pair) → first.row.0 ≡ left → first.environment ≡ env.Empty → second.row.0 ≡ right → second.environment ≡ env.Empty → IsSubst (f left) → IsSubst (f right) → All (IsPair f known 0) pairs → Substs f known (f left ≡ f right) pairs known first second pairs
 substs-begin f known left right first second pairs l le r re ls rs stand =
     let ml = subst_row-meaning f known left first l le ls in
     let mr = subst_row-meaning f known right second r re rs in

@@ -1,27 +1,23 @@
 -- The kids of one operator on both sides of a pair.
-use Rattle.std.specs.Prelude.{◌≡◌, ℕ, suc, ◌+◌, ◌≤◌, List, [], ◌∷◌, ◌++◌, Contains, Option, take}
+use Rattle.std.specs.Prelude.{◌≡◌, ℕ, ◌+◌, ◌≤◌, List, [], ◌∷◌, ◌++◌, Contains, Option, length}
 use Rattle.std.specs.List.{All}
-use Rattle.theory.specs.declared.op.Op.{Op}
-use Rattle.theory.specs.Operators.{kids_of, binds_of}
-use Rattle.theory.specs.Things.{Thing, Meanings}
-use Rattle.closures.specs.Rows.{IsTree}
-use Rattle.closures.specs.Environments.{Waiting, deepened, listed}
-use Rattle.closures.specs.Closures.{Stands, under, delays}
+use Rattle.trees.specs.declared.op.Op.{Op}
+use Rattle.trees.specs.Operators.{kids_of}
+use Rattle.trees.specs.Things.{Thing, Meanings}
+use Rattle.rows.specs.Views.{IsTree}
+use Rattle.closures.specs.Environments.{Waiting, listed}
+use Rattle.closures.specs.Closures.{Stands, kid_things}
 use Rattle.compare.specs.Pairs.{Agrees, size_of, pair_size, total}
 use Rattle.closures.specs.declared.environments.Environment.{Environment}
 use Rattle.compare.specs.declared.pairs.Pair.{Pair}
 
--- what each kid means, from the kid `at` on
-abbrev pub kid_things : Meanings → List Waiting → Op → ℕ → List ℕ → List (Option Thing)
-kid_things f ws op at [] = []
-kid_things f ws op at (k ∷ ks) = under (f k) (delays f (deepened (binds_of op at) ws)) ∷ kid_things f ws op (suc at) ks
-
 abbrev pub kids_meant : Meanings → List (List Waiting) → Op → List ℕ → Environment → List (Option Thing)
-kids_meant f known op cells environment = kid_things f (listed known environment) op 0 (take (kids_of op) cells)
+kids_meant f known op kids environment = kid_things f (listed known environment) op 0 kids
 
--- the rows of the kids are those of trees, under an environment that waits under n binders at most
-pub record KidsStand (f : Meanings) (known : List (List Waiting)) (n : ℕ) (op : Op) (cells : List ℕ) (environment : Environment) : Type 0 where
-  pub rows : All (λ k. IsTree (f k)) (take (kids_of op) cells)
+-- the operator's kids, as many as it has, are rows of trees, under an environment that waits under n binders at most
+pub record KidsStand (f : Meanings) (known : List (List Waiting)) (n : ℕ) (op : Op) (kids : List ℕ) (environment : Environment) : Type 0 where
+  pub rows : All (λ k. IsTree (f k)) kids
+  pub count : length kids ≡ kids_of op
   pub environment_stands : Stands f known n environment
 
 abbrev pub sum_of_sizes : List (Option Thing) → ℕ

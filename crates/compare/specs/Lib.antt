@@ -1,3 +1,4 @@
 pub mod Pairs
 pub mod Kids
 pub mod Kinds
+pub mod Entries

@@ -1,8 +1,8 @@
 -- Pairs of closures, and what it takes for them to agree.
 use Rattle.std.specs.Prelude.{◌≡◌, ℕ, ◌+◌, ◌<◌, List, [], ◌∷◌, ◌++◌, Contains, Option, Some}
 use Rattle.std.specs.List.{All}
-use Rattle.theory.specs.Trees.{Tree, Trees, Var, Make, NoTrees, More}
-use Rattle.theory.specs.Things.{Thing, ATree, Meanings}
+use Rattle.trees.specs.Trees.{Tree, Trees, Var, Make, NoTrees, More}
+use Rattle.trees.specs.Things.{Thing, ATree, Meanings}
 use Rattle.closures.specs.Environments.{Waiting}
 use Rattle.closures.specs.Closures.{closure_meaning, IsClosure}
 use Rattle.compare.specs.declared.pairs.Pair.{Pair}

@@ -1,52 +1,106 @@
-//! What rows have to have in common to mean the same.
+//! Whether rows, or claims, mean the same.
 
+use crate::entries::{LastEntries, last_entries};
+use crate::kinds::kinds;
 use crate::pairs::{Pair, add_pair};
 use crate::walk::all_agree;
-use closures::{Closure, ContextRow, Environments, Reader, SubstClosure, SubstHead, subst_head};
+use closures::{Closure, Environments, SubstClosure, SubstHead, subst_head};
 use indexmap::IndexSet;
+use rows::{CtxId, Reader, SubId, TermId};
 use std::alloc::{AllocError, Global};
-use theory::PartKind;
+use trees::{Claim, PartKind};
 
-/// The environments of a comparison, and the pairs of trees that it has to look at.
+/// Compares rows, one question after another, and keeps its memory from one to the next. It holds the environments that a question
+/// has made, and the pairs of trees that it has to look at.
 #[derive(Drop)]
 pub struct Comparison {
-    pub environments: Environments,
-    pub pairs: IndexSet<Pair>,
+    environments: Environments,
+    pairs: IndexSet<Pair>,
 }
 
 impl Comparison {
-    ghost use Rattle.std.specs.Prelude.{◌≡◌, ◌↔◌, [], IfOk, OnOk, IsTrue, true, false};
+    ghost use Rattle.std.specs.Prelude.{◌≡◌, ◌↔◌, [], IfOk, OnOk, IsSome, IsTrue, true, false};
     ghost use Rattle.std.specs.List.{All};
-    ghost use Rattle.closures.specs.Tables.{Grows};
-    ghost use Rattle.closures.specs.Rows.{IsTree, IsSubst, IsContext};
+    ghost use Rattle.trees.specs.Claimed.{claimed};
+    ghost use Rattle.rows.specs.Tables.{Grows};
+    ghost use Rattle.rows.specs.Views.{IsTree, IsSubst, IsContext, IsOfKind};
     ghost use Rattle.closures.specs.Shown.{lists};
     ghost use Rattle.compare.specs.Pairs.{Agrees, Asks, IsPair};
-    ghost use Rattle.compare.specs.Kinds.{IsOfKind};
 
-    pub fn new(alloc: Global) -> Comparison
-        ensures pairs { result.pairs.keys ≡ [] }
-    {
+    /// A comparison that was asked nothing yet.
+    pub fn new(alloc: Global) -> Comparison {
         Comparison {
             environments: Environments::new(alloc),
             pairs: IndexSet::new(alloc),
         }
     }
 
-    /// Asks whether the trees of two rows are the same.
-    pub fn ask_trees<R: Reader>(
+    /// Whether two rows that mean things of a kind mean the same. Substitutions are the same where the same trees are pushed on the
+    /// same shift: two that do the same to every tree may differ.
+    pub fn same<R: Reader>(
         &mut self,
         rows: &R,
+        kind: PartKind,
         left: u64,
         right: u64,
-    ) -> Result<(), AllocError>
+    ) -> Result<bool, AllocError>
+        requires left { IsOfKind kind (R.means rows.now left) }
+        requires right { IsOfKind kind (R.means rows.now right) }
+        ensures { let f = R.means rows.now in IfOk result (λ same. IsTrue same ↔ (f left ≡ f right)) }
+    {
+        self.clear();
+        if !self.ask(rows, kind, left, right)? {
+            return Ok(false);
+        }
+        Ok(self.agree(rows)?)
+    }
+
+    /// Whether two claims are the same judgement.
+    pub fn same_claim<R: Reader>(
+        &mut self,
+        rows: &R,
+        left: Claim,
+        right: Claim,
+    ) -> Result<bool, AllocError>
+        requires left { IsSome (claimed (R.means rows.now) left) }
+        requires right { IsSome (claimed (R.means rows.now) right) }
+        ensures { let f = R.means rows.now in
+            IfOk result (λ same. IsTrue same ↔ (claimed f left ≡ claimed f right)) }
+    {
+        if left.form() != right.form() {
+            return Ok(false);
+        }
+        self.clear();
+        let lefts = left.rows();
+        let rights = right.rows();
+        for (at, kind) in kinds(left.form()).iter().enumerate() {
+            let (left, right) = (lefts.as_slice()[at], rights.as_slice()[at]);
+            if !self.ask(rows, *kind, left, right)? {
+                return Ok(false);
+            }
+        }
+        Ok(self.agree(rows)?)
+    }
+
+    /// Forgets what was asked, and keeps the memory.
+    fn clear(&mut self)
+        ensures { self.new.pairs.keys ≡ [] }
+    {
+        self.environments.clear();
+        self.pairs.clear();
+    }
+
+    /// Asks whether the trees of two rows are the same.
+    fn ask_trees<R: Reader>(&mut self, rows: &R, left: u64, right: u64) -> Result<(), AllocError>
         requires left { IsTree (R.means rows.now left) }
         requires right { IsTree (R.means rows.now right) }
         ensures environments { self.new.environments ≡ self.old.environments }
-        ensures asks { OnOk result (Asks (R.means rows.now) (lists self.new.environments) (R.means rows.now left ≡ R.means rows.now right) self.old.pairs.keys self.new.pairs.keys) }
+        ensures asks { let f = R.means rows.now in OnOk result
+            (Asks f (lists self.new.environments) (f left ≡ f right) self.old.pairs.keys self.new.pairs.keys) }
     {
         let pair = Pair {
-            left: Closure::of_row(left),
-            right: Closure::of_row(right),
+            left: Closure::of_row(TermId(left)),
+            right: Closure::of_row(TermId(right)),
         };
         add_pair(&mut self.pairs, pair)?;
         Ok(())
@@ -54,7 +108,7 @@ impl Comparison {
 
     /// Asks whether the contexts of two rows are the same. The answer is no where they have not the same entries, whatever the
     /// trees of these.
-    pub fn ask_contexts<R: Reader>(
+    fn ask_contexts<R: Reader>(
         &mut self,
         rows: &R,
         left: u64,
@@ -63,23 +117,22 @@ impl Comparison {
         requires left { IsContext (R.means rows.now left) }
         requires right { IsContext (R.means rows.now right) }
         ensures environments { self.new.environments ≡ self.old.environments }
-        ensures yes { IfOk result (λ same. same ≡ true → Asks (R.means rows.now) (lists self.new.environments) (R.means rows.now left ≡ R.means rows.now right) self.old.pairs.keys self.new.pairs.keys) }
-        ensures no { IfOk result (λ same. same ≡ false → R.means rows.now left ≡ R.means rows.now right → ⊥) }
+        ensures yes { let f = R.means rows.now in IfOk result (λ same. same ≡ true →
+            Asks f (lists self.new.environments) (f left ≡ f right) self.old.pairs.keys self.new.pairs.keys) }
+        ensures no { let f = R.means rows.now in
+            IfOk result (λ same. same ≡ false → f left ≡ f right → ⊥) }
     {
-        let (mut left, mut right) = (left, right);
+        let mut left = CtxId(left);
+        let mut right = CtxId(right);
         while left != right {
-            match (rows.context(left), rows.context(right)) {
-                (ContextRow::Nil, ContextRow::Nil) => return Ok(true),
-                (ContextRow::WithVar(g, a), ContextRow::WithVar(h, b)) => {
-                    self.ask_trees(rows, a, b)?;
-                    (left, right) = (g, h);
+            match last_entries(rows, left, right) {
+                LastEntries::Empty => return Ok(true),
+                LastEntries::Trees(before, other, tree, other_tree) => {
+                    self.ask_trees(rows, tree.0, other_tree.0)?;
+                    (left, right) = (before, other);
                 }
-                (ContextRow::WithName(g), ContextRow::WithName(h)) => (left, right) = (g, h),
-                (ContextRow::WithFace(g, p), ContextRow::WithFace(h, q)) => {
-                    self.ask_trees(rows, p, q)?;
-                    (left, right) = (g, h);
-                }
-                _ => return Ok(false),
+                LastEntries::Names(before, other) => (left, right) = (before, other),
+                LastEntries::Other => return Ok(false),
             }
         }
         Ok(true)
@@ -87,21 +140,18 @@ impl Comparison {
 
     /// Asks whether the substitutions of two rows are the same: the same trees on the same shift. The answer is no where they have
     /// not so many trees, or not the same shift.
-    pub fn ask_substs<R: Reader>(
-        &mut self,
-        rows: &R,
-        left: u64,
-        right: u64,
-    ) -> Result<bool, AllocError>
+    fn ask_substs<R: Reader>(&mut self, rows: &R, left: u64, right: u64) -> Result<bool, AllocError>
         requires left { IsSubst (R.means rows.now left) }
         requires right { IsSubst (R.means rows.now right) }
         requires stand { All (IsPair (R.means rows.now) (lists self.old.environments) 0) self.old.pairs.keys }
         ensures grows { Grows (lists self.old.environments) (lists self.new.environments) }
-        ensures yes { IfOk result (λ same. same ≡ true → Asks (R.means rows.now) (lists self.new.environments) (R.means rows.now left ≡ R.means rows.now right) self.old.pairs.keys self.new.pairs.keys) }
-        ensures no { IfOk result (λ same. same ≡ false → R.means rows.now left ≡ R.means rows.now right → ⊥) }
+        ensures yes { let f = R.means rows.now in IfOk result (λ same. same ≡ true →
+            Asks f (lists self.new.environments) (f left ≡ f right) self.old.pairs.keys self.new.pairs.keys) }
+        ensures no { let f = R.means rows.now in
+            IfOk result (λ same. same ≡ false → f left ≡ f right → ⊥) }
     {
-        let mut left = SubstClosure::of_row(left);
-        let mut right = SubstClosure::of_row(right);
+        let mut left = SubstClosure::of_row(SubId(left));
+        let mut right = SubstClosure::of_row(SubId(right));
         while left != right {
             let first = subst_head(rows, &mut self.environments, left)?;
             let second = subst_head(rows, &mut self.environments, right)?;
@@ -119,7 +169,7 @@ impl Comparison {
     }
 
     /// Asks whether two rows of a kind mean the same. The answer is no where they differ outermost.
-    pub fn ask<R: Reader>(
+    fn ask<R: Reader>(
         &mut self,
         rows: &R,
         kind: PartKind,
@@ -130,12 +180,14 @@ impl Comparison {
         requires right { IsOfKind kind (R.means rows.now right) }
         requires stand { All (IsPair (R.means rows.now) (lists self.old.environments) 0) self.old.pairs.keys }
         ensures grows { Grows (lists self.old.environments) (lists self.new.environments) }
-        ensures yes { IfOk result (λ same. same ≡ true → Asks (R.means rows.now) (lists self.new.environments) (R.means rows.now left ≡ R.means rows.now right) self.old.pairs.keys self.new.pairs.keys) }
-        ensures no { IfOk result (λ same. same ≡ false → R.means rows.now left ≡ R.means rows.now right → ⊥) }
+        ensures yes { let f = R.means rows.now in IfOk result (λ same. same ≡ true →
+            Asks f (lists self.new.environments) (f left ≡ f right) self.old.pairs.keys self.new.pairs.keys) }
+        ensures no { let f = R.means rows.now in
+            IfOk result (λ same. same ≡ false → f left ≡ f right → ⊥) }
     {
         match kind {
-            PartKind::Context => self.ask_contexts(rows, left, right),
-            PartKind::Subst => self.ask_substs(rows, left, right),
+            PartKind::Context => Ok(self.ask_contexts(rows, left, right)?),
+            PartKind::Subst => Ok(self.ask_substs(rows, left, right)?),
             PartKind::Term => {
                 self.ask_trees(rows, left, right)?;
                 Ok(true)
@@ -144,10 +196,11 @@ impl Comparison {
     }
 
     /// Whether all that was asked is so.
-    pub fn agree<R: Reader>(mut self, rows: &R) -> Result<bool, AllocError>
-        requires { All (IsPair (R.means rows.now) (lists self.environments) 0) self.pairs.keys }
-        ensures { IfOk result (λ same. IsTrue same ↔ All (Agrees (R.means rows.now) (lists self.environments)) self.pairs.keys) }
+    fn agree<R: Reader>(&mut self, rows: &R) -> Result<bool, AllocError>
+        requires { All (IsPair (R.means rows.now) (lists self.old.environments) 0) self.old.pairs.keys }
+        ensures { let f = R.means rows.now in
+            IfOk result (λ same. IsTrue same ↔ All (Agrees f (lists self.old.environments)) self.old.pairs.keys) }
     {
-        all_agree(rows, &mut self.environments, &mut self.pairs)
+        Ok(all_agree(rows, &mut self.environments, &mut self.pairs)?)
     }
 }

@@ -2,14 +2,22 @@
 //!
 //! A comparison keeps the list of the pairs of closures that it has to look at, each once. Two closures are opened by one operator
 //! and their kids go on the list, so that trees that share their parts are compared in the time of what is shared.
+//!
+//! ```text
+//! let mut comparison = Comparison::new(alloc);
+//! // `zero` and `x[zero for x]`, by the numbers of their rows
+//! comparison.same(&rows, PartKind::Term, zero, instance)?      // true
+//! comparison.same_claim(&rows, wanted, stated)?                // in the same memory
+//! ```
 #![tactic(auto)]
 
 mod comparison;
+mod entries;
+mod kinds;
 mod pairs;
-mod same;
 mod walk;
 
-pub use same::{same_claim, same_context, same_subst, same_tree};
+pub use comparison::Comparison;
 
 #[cfg(test)]
 mod tests;

@@ -2,7 +2,7 @@
 
 ghost use Rattle.std.specs.Prelude.{◌≡◌, ◌↔◌, ◌-◌, ℕ, suc, length, drop, IfOk, OnOk, IsTrue, true, false};
 ghost use Rattle.std.specs.List.{All};
-ghost use Rattle.closures.specs.Tables.{Grows};
+ghost use Rattle.rows.specs.Tables.{Grows};
 ghost use Rattle.closures.specs.Environments.{deepest};
 ghost use Rattle.closures.specs.Shown.{lists};
 ghost use Rattle.closures.specs.Closures.{Stands};
@@ -10,15 +10,16 @@ ghost use Rattle.compare.specs.Pairs.{Agrees, IsPair, Opens};
 ghost use Rattle.compare.specs.Kids.{KidsStand, KidsOpen, kids_meant};
 
 use crate::pairs::{Pair, add_pair};
-use closures::{Environment, Environments, Head, MOST_KIDS, Reader, head_of, kid, kids_in};
+use closures::{Environment, Environments, Head, head_of, kid};
 use indexmap::IndexSet;
+use rows::Reader;
 use std::alloc::AllocError;
-use theory::{Op, kid_count};
+use trees::{Op, kid_count};
 
-/// The rows of an operator's kids, which stand first, and what waits before them.
+/// The rows of an operator's kids, and what waits before them.
 #[derive(Clone, Copy, Debug)]
-struct Kids {
-    rows: [u64; MOST_KIDS],
+struct Kids<'a> {
+    rows: &'a [u64],
     environment: Environment,
 }
 
@@ -28,27 +29,27 @@ fn add_kids<R: Reader>(
     environments: &Environments,
     pairs: &mut IndexSet<Pair>,
     op: Op,
-    left: &Kids,
-    right: &Kids,
+    left: &Kids<'_>,
+    right: &Kids<'_>,
 ) -> Result<(), AllocError>
-    requires left { KidsStand (R.means rows.now) (lists environments.now) (deepest - 1) op left.now.rows left.now.environment }
-    requires right { KidsStand (R.means rows.now) (lists environments.now) (deepest - 1) op right.now.rows right.now.environment }
-    ensures opens { OnOk result (KidsOpen (R.means rows.now) (lists environments.now)
-        (kids_meant (R.means rows.now) (lists environments.now) op left.now.rows left.now.environment)
-        (kids_meant (R.means rows.now) (lists environments.now) op right.now.rows right.now.environment)
+    requires left { let f = R.means rows.now in let known = lists environments.now in
+        KidsStand f known (deepest - 1) op left.now.rows.now left.now.environment }
+    requires right { let f = R.means rows.now in let known = lists environments.now in
+        KidsStand f known (deepest - 1) op right.now.rows.now right.now.environment }
+    ensures opens { let f = R.means rows.now in let known = lists environments.now in
+        OnOk result (KidsOpen f known
+        (kids_meant f known op left.now.rows.now left.now.environment)
+        (kids_meant f known op right.now.rows.now right.now.environment)
         pairs.old.keys pairs.new.keys) }
-    ensures stand { OnOk result ((n : ℕ)
-        → Stands (R.means rows.now) (lists environments.now) n left.now.environment
-        → Stands (R.means rows.now) (lists environments.now) n right.now.environment
-        → All (IsPair (R.means rows.now) (lists environments.now) (suc n)) (drop (length pairs.old.keys) pairs.new.keys)) }
+    ensures stand { let f = R.means rows.now in let known = lists environments.now in
+        OnOk result ((n : ℕ) → Stands f known n left.now.environment → Stands f known n right.now.environment
+        → All (IsPair f known (suc n)) (drop (length pairs.old.keys) pairs.new.keys)) }
 {
-    let lefts = kids_in(op, &left.rows);
-    let rights = kids_in(op, &right.rows);
     for at in 0..kid_count(op) {
         let place = at as usize;
         let pair = Pair {
-            left: kid(environments, op, at, lefts[place], left.environment),
-            right: kid(environments, op, at, rights[place], right.environment),
+            left: kid(environments, op, at, left.rows[place], left.environment),
+            right: kid(environments, op, at, right.rows[place], right.environment),
         };
         add_pair(pairs, pair)?;
     }
@@ -64,10 +65,13 @@ fn open_pair<R: Reader>(
 ) -> Result<bool, AllocError>
     requires { IsPair (R.means rows.now) (lists environments.old) (deepest - 1) pair }
     ensures grows { Grows (lists environments.old) (lists environments.new) }
-    ensures yes { IfOk result (λ same. same ≡ true → Opens (R.means rows.now) (lists environments.new) pair pairs.old.keys pairs.new.keys) }
-    ensures stand { IfOk result (λ same. same ≡ true → (n : ℕ) → IsPair (R.means rows.now) (lists environments.old) n pair
-        → All (IsPair (R.means rows.now) (lists environments.new) (suc n)) (drop (length pairs.old.keys) pairs.new.keys)) }
-    ensures no { IfOk result (λ same. same ≡ false → Agrees (R.means rows.now) (lists environments.old) pair → ⊥) }
+    ensures yes { let f = R.means rows.now in
+        IfOk result (λ same. same ≡ true → Opens f (lists environments.new) pair pairs.old.keys pairs.new.keys) }
+    ensures stand { let f = R.means rows.now in
+        IfOk result (λ same. same ≡ true → (n : ℕ) → IsPair f (lists environments.old) n pair
+        → All (IsPair f (lists environments.new) (suc n)) (drop (length pairs.old.keys) pairs.new.keys)) }
+    ensures no { let f = R.means rows.now in
+        IfOk result (λ same. same ≡ false → Agrees f (lists environments.old) pair → ⊥) }
 {
     let left = head_of(rows, environments, pair.left)?;
     let right = head_of(rows, environments, pair.right)?;
@@ -92,14 +96,15 @@ fn open_pair<R: Reader>(
     }
 }
 
-/// Whether all pairs agree. Each pair is opened once, and pairs of kids go behind the others.
+/// Whether all pairs agree. Each pair is opened once, and pairs of kids come after the others.
 pub fn all_agree<R: Reader>(
     rows: &R,
     environments: &mut Environments,
     pairs: &mut IndexSet<Pair>,
 ) -> Result<bool, AllocError>
     requires { All (IsPair (R.means rows.now) (lists environments.old) 0) pairs.old.keys }
-    ensures { IfOk result (λ same. IsTrue same ↔ All (Agrees (R.means rows.now) (lists environments.old)) pairs.old.keys) }
+    ensures { let f = R.means rows.now in
+        IfOk result (λ same. IsTrue same ↔ All (Agrees f (lists environments.old)) pairs.old.keys) }
 {
     let mut at = 0;
     while at < pairs.len() {

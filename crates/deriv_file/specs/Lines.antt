@@ -17,7 +17,7 @@ SpellRows version at (line ∷ lines) [] = ⊥
 SpellRows version at (line ∷ lines) (row ∷ rows) =
     Spells version at line row × SpellRows (version_after version row) (at + 1) lines rows
 
--- the version of the rules behind these rows
-abbrev pub version_behind : ℕ → List Row → ℕ
-version_behind version [] = version
-version_behind version (row ∷ rows) = version_behind (version_after version row) rows
+-- the version of the rules after these rows
+abbrev pub version_after_all : ℕ → List Row → ℕ
+version_after_all version [] = version
+version_after_all version (row ∷ rows) = version_after_all (version_after version row) rows

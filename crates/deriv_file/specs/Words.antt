@@ -15,7 +15,7 @@ abbrev pub words_left : Option (Bor (List ℕ)) → List (List ℕ)
 words_left None = []
 words_left (Some rest) = line_words rest.now
 
--- the words begin with the numbers of so many rows in front of row `at`
+-- the words begin with the numbers of so many rows before row `at`
 pub record BeginWith (words : List (List ℕ)) (count at : ℕ) (ids : List ℕ) (more : List (List ℕ)) : Type 0 where
   pub spelt : words ≡ map decimal ids ++ more
   pub counted : length ids ≡ count
@@ -26,7 +26,7 @@ abbrev pub Reads : ℕ → ℕ → List (List ℕ) → Option Row → Type 0
 Reads version at words None = (row : Row) → words ≡ words_of row → MayStand version at row → ⊥
 Reads version at words (Some row) = (words ≡ words_of row) × MayStand version at row
 
--- what is read of bytes at a place: the row that their first line spells, with the bytes behind it, or nothing where it
+-- what is read of bytes at a place: the row that their first line spells, with the bytes after it, or nothing where it
 -- spells none
 abbrev pub ReadsLine : ℕ → ℕ → List ℕ → Option (Row × Bor (List ℕ)) → Type 0
 ReadsLine version at bytes None = (row : Row) → Spells version at (take_through 10 bytes) row → ⊥

@@ -2,7 +2,7 @@
 use Rattle.std.specs.Prelude.{◌≡◌, ℕ, List, ◌∷◌, length, take, decimal}
 use Rattle.std.specs.List.{flat_map}
 
--- numbers with a space in front of each
+-- numbers with a space before each
 abbrev pub spaced : List ℕ → List ℕ
 spaced numbers = flat_map (λ n. 32 ∷ decimal n) numbers
 

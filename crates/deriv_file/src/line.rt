@@ -1,17 +1,14 @@
 //! The row that a line spells.
 
-ghost use Rattle.std.specs.Prelude.{◌≡◌, ◌≤◌, ◌∷◌, IfOk, codes};
-ghost use Rattle.std.specs.Option.{SomeIff};
-ghost use Rattle.deriv_file.specs.Spelling.{newest};
+ghost use Rattle.std.specs.Prelude.{◌∷◌, IfOk, codes};
 ghost use Rattle.deriv_file.specs.Words.{line_words, Reads, ReadsLine};
 
-use crate::number::number;
-use crate::row::{NEWEST, Place, Row};
+use crate::row::{GREATEST_SHIFT, NEWEST, Place, Row};
 use crate::words::{Words, split_at_first};
 use std::alloc::{AllocError, Global};
 use theory::{count_parts, count_premises, kid_count, op_of, rule_of};
 
-/// The row that the first line of the bytes spells at a place, with the bytes behind the line, if it spells one.
+/// The row that the first line of the bytes spells at a place, with the bytes after the line, if it spells one.
 pub(crate) fn first_row(
     alloc: Global,
     bytes: &[u8],
@@ -39,6 +36,8 @@ fn row_of(alloc: Global, line: &[u8], place: Place) -> Result<Option<Row>, Alloc
     match kind {
         b"rules" => Ok(header(&mut words, place)),
         b"t" => tree(alloc, &mut words, place),
+        b"x" => Ok(instance(&mut words, place)),
+        b"s" => Ok(substitution(&mut words, place)),
         b"c" => Ok(context(&mut words, place)),
         b"n" => node(alloc, &mut words, place),
         b"r" => Ok(root(&mut words, place)),
@@ -46,36 +45,31 @@ fn row_of(alloc: Global, line: &[u8], place: Place) -> Result<Option<Row>, Alloc
     }
 }
 
-/// The number as a version of the rules, if files may have that one.
-fn known(version: u64) -> Option<u32>
-    ensures { SomeIff result ((1 ≤ version) × (version ≤ newest)) version }
-{
-    if (1..=u64::from(NEWEST)).contains(&version) {
-        Some(version as u32)
-    } else {
-        None
-    }
-}
-
 /// The rest of a line `rules V`.
 fn header(words: &mut Words<'_>, place: Place) -> Option<Row>
     ensures { Reads place.version place.at (codes "rules" ∷ words.old) result }
 {
-    let version = known(number(words.take()?)?)?;
-    if place.at == 0 && words.is_empty() {
-        Some(Row::Header(version))
+    let version = words.last_below(u64::from(NEWEST) + 1)?;
+    if version > 0 && place.at == 0 {
+        Some(Row::Header(version as u32))
     } else {
         None
     }
 }
 
-/// The rest of a line `t OP K1 .. Kn`.
+/// The rest of a line `t var N` or `t OP K1 .. Kn`.
 fn tree(alloc: Global, words: &mut Words<'_>, place: Place) -> Result<Option<Row>, AllocError>
     ensures { IfOk result (Reads place.version place.at (codes "t" ∷ words.old)) }
 {
     let Some(name) = words.take() else {
         return Ok(None);
     };
+    if name == b"var".as_slice() {
+        let Some(index) = words.last_below(1 << 32) else {
+            return Ok(None);
+        };
+        return Ok(Some(Row::Var(index as u32)));
+    }
     let Some(op) = op_of(name, place.version) else {
         return Ok(None);
     };
@@ -88,12 +82,41 @@ fn tree(alloc: Global, words: &mut Words<'_>, place: Place) -> Result<Option<Row
     Ok(Some(Row::Make(op, kids)))
 }
 
-/// The rest of a line `c nil`.
+/// The rest of a line `x T S`.
+fn instance(words: &mut Words<'_>, place: Place) -> Option<Row>
+    ensures { Reads place.version place.at (codes "x" ∷ words.old) result }
+{
+    let (term, sub) = words.last_two(place.at)?;
+    Some(Row::Instance(term, sub))
+}
+
+/// The rest of a line `s shift N` or `s push S T`.
+fn substitution(words: &mut Words<'_>, place: Place) -> Option<Row>
+    ensures { Reads place.version place.at (codes "s" ∷ words.old) result }
+{
+    match words.take()? {
+        b"shift" => {
+            let by = words.last_below(GREATEST_SHIFT + 1)?;
+            Some(Row::Shift(by))
+        }
+        b"push" => {
+            let (sub, term) = words.last_two(place.at)?;
+            Some(Row::Push(sub, term))
+        }
+        _ => None,
+    }
+}
+
+/// The rest of a line `c nil` or `c var C T`.
 fn context(words: &mut Words<'_>, place: Place) -> Option<Row>
     ensures { Reads place.version place.at (codes "c" ∷ words.old) result }
 {
     match words.take()? {
         b"nil" if words.is_empty() => Some(Row::CtxNil),
+        b"var" => {
+            let (ctx, ty) = words.last_two(place.at)?;
+            Some(Row::CtxVar(ctx, ty))
+        }
         _ => None,
     }
 }
@@ -124,10 +147,5 @@ fn node(alloc: Global, words: &mut Words<'_>, place: Place) -> Result<Option<Row
 fn root(words: &mut Words<'_>, place: Place) -> Option<Row>
     ensures { Reads place.version place.at (codes "r" ∷ words.old) result }
 {
-    let node = words.earlier(place.at)?;
-    if words.is_empty() {
-        Some(Row::Root(node))
-    } else {
-        None
-    }
+    Some(Row::Root(words.last_below(place.at)?))
 }

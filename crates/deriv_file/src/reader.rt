@@ -53,7 +53,7 @@ impl<'a> RowReader<'a> {
         }
     }
 
-    /// The next row. The only error is want of memory, and then the reader stands where it stood.
+    /// The next row. The only error is to be out of memory, and then the reader stands where it stood.
     pub fn next(&mut self, alloc: Global) -> Result<Next, AllocError>
         ensures next { IfOk result (NextIs self.old self.new) }
         ensures err { OnErr result (self.new ≡ self.old) }

@@ -5,8 +5,8 @@ use std::alloc::{AllocError, Global};
 use std::process::Abort;
 use std::test::Fail;
 
-// A whole file: each line with its row.
-const FILE: [(&str, &str); 13] = [
+// A whole file, whose first rows are right: each line with its row.
+const FILE: [(&str, &str); 24] = [
     ("rules 1", "Header(1)"),
     ("c nil", "CtxNil"),
     ("n ctx.nil", "Node(Contexts(CtxNil), [], [])"),
@@ -20,6 +20,17 @@ const FILE: [(&str, &str); 13] = [
     ("t suc 7", "Make(Suc, [7])"),
     ("n suc 1 10 9", "Node(Naturals(Suc), [1, 10], [9])"),
     ("r 11", "Root(11)"),
+    ("t var 0", "Var(0)"),
+    ("t var 4294967295", "Var(4294967295)"),
+    ("t i0", "Make(I0, [])"),
+    ("t pi 7 4", "Make(Pi, [7, 4])"),
+    ("t comp 0 1 2 3", "Make(Comp, [0, 1, 2, 3])"),
+    ("x 7 8", "Instance(7, 8)"),
+    ("s shift 0", "Shift(0)"),
+    ("s shift 4611686018427387904", "Shift(4611686018427387904)"),
+    ("s push 20 13", "Push(20, 13)"),
+    ("c var 1 4", "CtxVar(1, 4)"),
+    ("x 22 22", "Instance(22, 22)"),
 ];
 
 #[test]
@@ -53,8 +64,8 @@ fn reads_and_writes_rows(rt: HostRuntime) -> Result<(), Fail> {
     Ok(())
 }
 
-// Lines that spell no row behind `rules 1` and two lines `c nil`, so at row 3.
-const BAD: [&[u8]; 44] = [
+// Lines that spell no row after `rules 1` and two lines `c nil`, so at row 3.
+const BAD: [&[u8]; 66] = [
     b"\n",
     b" \n",
     b"c\n",
@@ -71,7 +82,23 @@ const BAD: [&[u8]; 44] = [
     b"c nil\xff\n",
     b"\0\n",
     b"\xff\n",
-    b"x 1 2\n",
+    b"c var 1\n",
+    b"c var 1 3\n",
+    b"c var 1 2 2\n",
+    b"c name 1\n",
+    b"c face 1 2\n",
+    b"x\n",
+    b"x 1\n",
+    b"x 1 3\n",
+    b"x 3 1\n",
+    b"x 1 2 2\n",
+    b"s\n",
+    b"s shift\n",
+    b"s shift 4611686018427387905\n",
+    b"s shift 1 1\n",
+    b"s push 1\n",
+    b"s push 1 3\n",
+    b"s pop 1 2\n",
     b"r\n",
     b"r 07\n",
     b"r 00\n",
@@ -91,7 +118,13 @@ const BAD: [&[u8]; 44] = [
     b"t suc 1 2\n",
     b"t suc 3\n",
     b"t nat 1\n",
-    b"t pi 1 2\n",
+    b"t pi 1\n",
+    b"t pi 1 2 2\n",
+    b"t pi 1 3\n",
+    b"t var\n",
+    b"t var 4294967296\n",
+    b"t var 1 1\n",
+    b"t vars 1\n",
     b"t nope\n",
     b"t SUC 1\n",
     b"n\n",
@@ -120,11 +153,11 @@ fn is_bad(answer: &Next, row: u64) -> bool {
 fn refuses(
     rt: &impl Abort,
     alloc: Global,
-    front: &[u8],
+    before: &[u8],
     row: u64,
     line: &[u8],
 ) -> Result<(), AllocError> {
-    let mut bytes = Vec::from_slice(alloc, front)?;
+    let mut bytes = Vec::from_slice(alloc, before)?;
     bytes.extend_from_slice(line)?;
     let mut reader = RowReader::new(&bytes);
     for _ in 0..row {

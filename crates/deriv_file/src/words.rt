@@ -1,8 +1,8 @@
 //! The words of a line.
 
-ghost use Rattle.std.specs.Prelude.{◌≡◌, ◌≢◌, ◌<◌, ◌↔◌, ℕ, List, [], ◌∷◌, ◌++◌, MatchOption, IfOk, IfSome, IfNone, IsTrue, decimal};
-ghost use Rattle.std.specs.List.{All};
+ghost use Rattle.std.specs.Prelude.{◌≡◌, ◌≢◌, ◌<◌, ◌↔◌, ℕ, List, [], ◌∷◌, ◌++◌, MatchOption, IfOk, IfSome, IfNone, IsTrue, decimal, map};
 ghost use Rattle.deriv_file.specs.Spelling.{Earlier};
+ghost use Rattle.std.specs.List.{All};
 ghost use Rattle.deriv_file.specs.Words.{line_words, BeginWith};
 
 use crate::ids::Ids;
@@ -10,7 +10,7 @@ use crate::number::number;
 use std::alloc::{AllocError, Global};
 use std::marker::Model;
 
-/// What stands before the first byte of a value, and what behind it.
+/// What stands before the first byte of a value, and what after it.
 pub(crate) fn split_at_first(bytes: &[u8], mark: u8) -> Option<(&[u8], &[u8])>
     ensures some { IfSome result
         (λ parts. (bytes.now ≡ parts.0.now ++ mark ∷ parts.1.now) × All (λ b. b ≢ mark) parts.0.now) }
@@ -18,8 +18,8 @@ pub(crate) fn split_at_first(bytes: &[u8], mark: u8) -> Option<(&[u8], &[u8])>
 {
     for (i, byte) in bytes.iter().enumerate() {
         if *byte == mark {
-            let (front, back) = bytes.split_at(i);
-            return Some((front, back.split_at(1).1));
+            let (before, rest) = bytes.split_at(i);
+            return Some((before, rest.split_at(1).1));
         }
     }
     None
@@ -73,17 +73,38 @@ impl<'a> Words<'a> {
         self.rest.is_none()
     }
 
-    /// Takes the next word, if it is the number of a row in front of row `at`.
-    pub(crate) fn earlier(&mut self, at: u64) -> Option<u64>
-        ensures some { IfSome result (λ n. (self.old ≡ decimal n ∷ self.new) × (n < at)) }
+    /// Takes the next word, if it is a number below a bound.
+    pub(crate) fn number_below(&mut self, bound: u64) -> Option<u64>
+        ensures some { IfSome result (λ n. (self.old ≡ decimal n ∷ self.new) × (n < bound)) }
         ensures none { IfNone result
-            ((n : ℕ) (more : List (List ℕ)) → self.old ≡ decimal n ∷ more → Earlier at n → ⊥) }
+            ((n : ℕ) (more : List (List ℕ)) → self.old ≡ decimal n ∷ more → n < bound → ⊥) }
     {
-        let id = number(self.take()?)?;
-        if id < at { Some(id) } else { None }
+        let n = number(self.take()?)?;
+        if n < bound { Some(n) } else { None }
     }
 
-    /// Takes the next words, if they are the numbers of so many rows in front of row `at`.
+    /// Takes the last word, if it is a number below a bound.
+    pub(crate) fn last_below(&mut self, bound: u64) -> Option<u64>
+        ensures some { IfSome result (λ n. (self.old ≡ decimal n ∷ []) × (n < bound)) }
+        ensures none { IfNone result ((n : ℕ) → self.old ≡ decimal n ∷ [] → n < bound → ⊥) }
+    {
+        let n = self.number_below(bound)?;
+        if self.is_empty() { Some(n) } else { None }
+    }
+
+    /// Takes the last two words, if they are the numbers of rows before row `at`.
+    pub(crate) fn last_two(&mut self, at: u64) -> Option<(u64, u64)>
+        ensures some { IfSome result (λ rows. let numbers = rows.0 ∷ rows.1 ∷ [] in
+            (self.old ≡ map decimal numbers) × All (Earlier at) numbers) }
+        ensures none { IfNone result ((first second : ℕ) → let numbers = first ∷ second ∷ [] in
+            self.old ≡ map decimal numbers → All (Earlier at) numbers → ⊥) }
+    {
+        let first = self.number_below(at)?;
+        let second = self.last_below(at)?;
+        Some((first, second))
+    }
+
+    /// Takes the next words, if they are the numbers of so many rows before row `at`.
     pub(crate) fn numbers(
         &mut self,
         alloc: Global,
@@ -97,7 +118,7 @@ impl<'a> Words<'a> {
     {
         let mut ids = Ids::with_capacity(alloc, count as usize)?;
         for _ in 0..count {
-            let Some(id) = self.earlier(at) else {
+            let Some(id) = self.number_below(at) else {
                 return Ok(None);
             };
             ids.push(id)?;

@@ -10,7 +10,7 @@ use itoa::Buffer;
 use std::alloc::AllocError;
 use theory::{op_name, rule_name};
 
-/// Appends the line that spells the row. The only error is want of memory, and then `into` is as before.
+/// Appends the line that spells the row. The only error is to be out of memory, and then `into` is as before.
 pub fn write_row(row: &Row, into: &mut Vec<u8>) -> Result<(), AllocError>
     ensures ok { OnOk result (into.new.items ≡ into.old.items ++ spelled row.now) }
     ensures err { OnErr result (into.new.items ≡ into.old.items) }
@@ -30,10 +30,15 @@ fn append_row(row: &Row, into: &mut Vec<u8>) -> Result<(), AllocError>
 {
     match row {
         Row::Header(version) => append_line(b"rules", b"", &[u64::from(*version)], &[], into),
+        Row::Var(index) => append_line(b"t var", b"", &[u64::from(*index)], &[], into),
         Row::Make(op, kids) => {
             append_line(b"t ", op_name(*op).as_bytes(), kids.as_slice(), &[], into)
         }
+        Row::Instance(term, sub) => append_line(b"x", b"", &[*term, *sub], &[], into),
+        Row::Shift(by) => append_line(b"s shift", b"", &[*by], &[], into),
+        Row::Push(sub, term) => append_line(b"s push", b"", &[*sub, *term], &[], into),
         Row::CtxNil => append_line(b"c nil", b"", &[], &[], into),
+        Row::CtxVar(ctx, ty) => append_line(b"c var", b"", &[*ctx, *ty], &[], into),
         Row::Node(rule, parts, premises) => append_line(
             b"n ",
             rule_name(*rule).as_bytes(),
@@ -45,7 +50,7 @@ fn append_row(row: &Row, into: &mut Vec<u8>) -> Result<(), AllocError>
     }
 }
 
-/// Appends a line: its beginning in two parts, and behind them numbers, a space in front of each.
+/// Appends a line: its beginning in two parts, and after them numbers, a space before each.
 fn append_line(
     kind: &[u8],
     name: &[u8],
@@ -64,7 +69,7 @@ fn append_line(
     into.extend_from_slice(b"\n")
 }
 
-/// Appends the numbers, with a space in front of each.
+/// Appends the numbers, with a space before each.
 fn append_numbers(numbers: &[u64], into: &mut Vec<u8>) -> Result<(), AllocError>
     ensures ok { OnOk result (into.new.items ≡ into.old.items ++ spaced numbers.now) }
     ensures err { OnErr result (Extends into.old.items into.new.items) }

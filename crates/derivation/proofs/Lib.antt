@@ -1,3 +1,4 @@
-pub mod Unique
-pub mod Fronts
-mod Sound
+pub mod UniqueLaws
+pub mod PrefixLaws
+pub mod ExistLaws
+pub mod SoundLaws

@@ -83,7 +83,7 @@ after_write answer piece sink = record sink {
   faults = counted_write answer sink.faults;
 }
 
--- A read gives as much of what is left as fits in the buffer, at its front, and keeps the rest of it.
+-- A read gives as much of what is left as fits in the buffer, at its start, and keeps the rest of it.
 abbrev pub GivesWhatFits : SourceInMemory → List ℕ → List ℕ → Got → Type 0
 GivesWhatFits source old new (got.Bytes n) =
     (n ≡ min (length old) (length source.left)) × (new ≡ take n source.left ++ drop n old)

@@ -1,7 +1,6 @@
 // Files by their paths.
-ghost use Rattle.std.specs.Prelude.{◌≡◌, ◌≤◌, ℕ};
-ghost use Rattle.std.specs.declared.option.Option.{Option};
-ghost use Rattle.edge.specs.Counts.{Rose};
+ghost use Rattle.std.specs.Prelude.{◌≡◌, Option};
+ghost use Rattle.edge.specs.Counts.{FileCounts, counted_fetch, counted_store};
 ghost use Rattle.edge.specs.Files.{Held, FetchGives, StoreDoes};
 
 /// How a fetch ended.
@@ -13,7 +12,7 @@ pub enum Fetched {
     Missing,
     /// The path can't be read for another reason.
     Failed,
-    /// There was no memory for the bytes.
+    /// It was out of memory for the bytes.
     Memory,
 }
 
@@ -24,43 +23,26 @@ pub enum Stored {
     Done,
     /// The bytes could not be written, and what the path holds now is open.
     Failed,
-    /// There was no memory, and nothing changed.
+    /// It was out of memory, and nothing changed.
     Memory,
 }
 
-/// Files by their paths. Three counts say how often something went wrong, and never fall.
+/// Files by their paths. Counts say how often something went wrong.
 pub trait Files {
     /// The bytes at each path that is held, where that is told.
     ghost held: { Self → Option Held };
 
-    /// How many fetches were answered by `Missing`.
-    ghost misses: { Self → ℕ };
-
-    /// How many fetches failed.
-    ghost fetch_faults: { Self → ℕ };
-
-    /// How many stores failed.
-    ghost store_faults: { Self → ℕ };
+    /// How many fetches were answered by `Missing`, and how many fetches and stores failed.
+    ghost counts: { Self → FileCounts };
 
     /// Appends the bytes of the path to `into`, which any answer but `Found` leaves as it was.
     fn fetch(&mut self, path: &str, into: &mut Vec<u8>) -> Fetched
         ensures bytes { FetchGives (held self.old) path.now into.old.items into.new.items result }
         ensures held { held self.new ≡ held self.old }
-
-        ensures missing { result ≡ Fetched.Missing → Rose (misses self.old) (misses self.new) }
-        ensures failed { result ≡ Fetched.Failed
-            → Rose (fetch_faults self.old) (fetch_faults self.new) }
-        ensures misses { misses self.old ≤ misses self.new }
-        ensures fetch_faults { fetch_faults self.old ≤ fetch_faults self.new }
-        ensures store_faults { store_faults self.new ≡ store_faults self.old };
+        ensures counted { counts self.new ≡ counted_fetch result (counts self.old) };
 
     /// Puts the bytes at the path, in place of what it held.
     fn store(&mut self, path: &str, bytes: &[u8]) -> Stored
         ensures held { StoreDoes (held self.old) (held self.new) path.now bytes.now result }
-
-        ensures failed { result ≡ Stored.Failed
-            → Rose (store_faults self.old) (store_faults self.new) }
-        ensures store_faults { store_faults self.old ≤ store_faults self.new }
-        ensures misses { misses self.new ≡ misses self.old }
-        ensures fetch_faults { fetch_faults self.new ≡ fetch_faults self.old };
+        ensures counted { counts self.new ≡ counted_store result (counts self.old) };
 }

@@ -5,6 +5,7 @@ ghost use Rattle.std.specs.Io.KnownBytes.{IsAtEnd, ReadConsumes, WriteAppends};
 ghost use Rattle.edge.specs.Counts.{counted_read, counted_write};
 ghost use Rattle.edge.specs.Streams.{ReadGives, WriteTakes};
 
+use crate::faults::{Fault, fault_of};
 use crate::{Got, Sink, Source, Took};
 use std::io;
 use std::io::{ErrorKind, Read, Write};
@@ -19,9 +20,9 @@ pub struct StdIn<R: Read + Drop> {
 }
 
 impl<R: Read + Drop> Model for StdIn<R> {
-    ghost use Rattle.edge.specs.Standard.{ReaderSource};
+    ghost use Rattle.edge.specs.Seen.{SeenSource};
 
-    ghost Value = { ReaderSource };
+    ghost Value = { SeenSource };
 
     ghost view = { λ s. record { left = R.remaining s.reader; faults = s.faults } };
 }
@@ -42,7 +43,7 @@ fn read_retrying<R: Read>(reader: &mut R, buf: &mut [u8]) -> io::Result<usize>
 {
     for _ in 0..u64::MAX {
         match reader.read(buf) {
-            Err(error) if error.kind() == ErrorKind::Interrupted => {}
+            Err(error) if fault_of(&error) == Fault::Interrupted => {}
             outcome => return outcome,
         }
     }
@@ -78,9 +79,9 @@ pub struct StdOut<W: Write + Drop> {
 }
 
 impl<W: Write + Drop> Model for StdOut<W> {
-    ghost use Rattle.edge.specs.Standard.{WriterSink};
+    ghost use Rattle.edge.specs.Seen.{SeenSink};
 
-    ghost Value = { WriterSink };
+    ghost Value = { SeenSink };
 
     ghost view = { λ s. record { taken = W.contents s.writer; faults = s.faults } };
 }
@@ -101,7 +102,7 @@ fn write_retrying<W: Write>(writer: &mut W, piece: &[u8]) -> io::Result<usize>
 {
     for _ in 0..u64::MAX {
         match writer.write(piece) {
-            Err(error) if error.kind() == ErrorKind::Interrupted => {}
+            Err(error) if fault_of(&error) == Fault::Interrupted => {}
             outcome => return outcome,
         }
     }

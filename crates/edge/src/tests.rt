@@ -1,8 +1,10 @@
-// Each public call once, with its answer.
-ghost use Rattle.std.specs.Prelude.{◌≡◌, IfOk};
-
+// Each public call once, with its answer, and what the system may answer.
 use super::*;
+use crate::disk::{append_all, fetched_from};
+use crate::faults::{Fault, fault_of};
+use std::alloc::{AllocError, Global};
 use std::io::{ErrorKind, Read, Write};
+use std::process::Abort;
 use std::test::Fail;
 use std::{env, fs, io, process};
 
@@ -58,6 +60,32 @@ fn memory_sink_stops_at_its_room(rt: HostRuntime) -> Result<(), Fail> {
     Ok(())
 }
 
+/// More bytes than a mebibyte has.
+fn many(alloc: Global) -> Result<Vec<u8>, AllocError> {
+    let mut bytes = Vec::new(alloc);
+    for place in 0..(1 << 20) + 3u32 {
+        bytes.push((place % 251) as u8)?;
+    }
+    Ok(bytes)
+}
+
+/// Asserts how a store at the path ends, and a fetch after it.
+fn assert_stores<F: Files>(
+    rt: &impl Abort,
+    alloc: Global,
+    files: &mut F,
+    path: &str,
+    bytes: &[u8],
+    (stored, fetched): (Stored, Fetched),
+) {
+    let mut found = Vec::new(alloc);
+    assert_eq!(rt; files.store(path, bytes), stored, "at {path}");
+    assert_eq!(rt; files.fetch(path, &mut found), fetched, "at {path}");
+    if stored == Stored::Done {
+        assert!(rt; found.as_slice() == bytes, "at {path}");
+    }
+}
+
 #[test]
 fn disk_files_tell_missing_from_failed(rt: HostRuntime) -> Result<(), Fail> {
     let alloc = rt.alloc();
@@ -67,47 +95,68 @@ fn disk_files_tell_missing_from_failed(rt: HostRuntime) -> Result<(), Fail> {
     let there = folder.join(alloc, "there")?;
     let inside = there.join(alloc, "inside")?;
     let mut files = DiskFiles::new(rt);
-    let mut bytes = Vec::from_slice(alloc, b"> ")?;
-    for (path, stored, fetched) in [
-        (there.as_str(), Stored::Done, Fetched::Found),
-        (folder.as_str(), Stored::Failed, Fetched::Failed),
-        (inside.as_str(), Stored::Failed, Fetched::Failed),
-    ] {
-        assert_eq!(rt; files.store(path, b"rules 1\n"), stored, "at {path}");
-        assert_eq!(rt; files.fetch(path, &mut bytes), fetched, "at {path}");
-    }
+    let done = (Stored::Done, Fetched::Found);
+    let failed = (Stored::Failed, Fetched::Failed);
+    assert_stores(&rt, alloc, &mut files, there.as_str(), &many(alloc)?, done);
+    assert_stores(&rt, alloc, &mut files, there.as_str(), b"rules 1", done);
+    assert_stores(&rt, alloc, &mut files, folder.as_str(), b"rules 1", failed);
+    assert_stores(&rt, alloc, &mut files, inside.as_str(), b"rules 1", failed);
+    assert_eq!(rt; files.store("/dev/full", b"rules 1"), Stored::Failed);
     fs::remove_dir_all(&rt, folder.as_str())?;
+    let mut bytes = Vec::from_slice(alloc, b"> ")?;
     assert_eq!(rt; files.fetch(there.as_str(), &mut bytes), Fetched::Missing);
-    assert_eq!(rt; bytes.as_slice(), b"> rules 1\n".as_slice());
+    assert_eq!(rt; bytes.as_slice(), b"> ".as_slice());
     Ok(())
 }
 
-/// A stream with these errors, the last first, that then gives and takes nothing.
+#[test]
+fn errors_have_their_meaning(rt: HostRuntime) {
+    for (kind, fault, fetched) in [
+        (ErrorKind::NotFound, Fault::Missing, Fetched::Missing),
+        (ErrorKind::OutOfMemory, Fault::Memory, Fetched::Memory),
+        (ErrorKind::Interrupted, Fault::Interrupted, Fetched::Failed),
+        (ErrorKind::PermissionDenied, Fault::Other, Fetched::Failed),
+        (ErrorKind::StorageFull, Fault::Other, Fetched::Failed),
+        (ErrorKind::NotADirectory, Fault::Other, Fetched::Failed),
+    ] {
+        assert_eq!(rt; fault_of(&io::Error::from(kind)), fault);
+        assert_eq!(rt; fetched_from(&Err(io::Error::from(kind))), fetched);
+    }
+    assert_eq!(rt; fetched_from(&Ok(())), Fetched::Found);
+}
+
+/// A stream with these errors, the last first, that then gives nothing and takes so many bytes of each piece.
 #[derive(Drop)]
 struct Faulty {
     errors: Vec<ErrorKind>,
+    takes: usize,
 }
 
 impl Faulty {
-    fn next(&mut self) -> io::Result<usize>
-        ensures { IfOk result (λ count. count ≡ 0) }
-    {
+    fn new(alloc: Global, errors: &[ErrorKind], takes: usize) -> Result<Faulty, AllocError> {
+        let errors = Vec::from_slice(alloc, errors)?;
+        Ok(Faulty { errors, takes })
+    }
+
+    fn next(&mut self) -> io::Result<()> {
         match self.errors.pop() {
             Some(kind) => Err(io::Error::from(kind)),
-            None => Ok(0),
+            None => Ok(()),
         }
     }
 }
 
 impl Read for Faulty {
     fn read(&mut self, _buf: &mut [u8]) -> io::Result<usize> {
-        self.next()
+        self.next()?;
+        Ok(0)
     }
 }
 
 impl Write for Faulty {
-    fn write(&mut self, _buf: &[u8]) -> io::Result<usize> {
-        self.next()
+    fn write(&mut self, buf: &[u8]) -> io::Result<usize> {
+        self.next()?;
+        Ok(self.takes.min(buf.len()))
     }
 
     fn flush(&mut self) -> io::Result<()> {
@@ -115,33 +164,70 @@ impl Write for Faulty {
     }
 }
 
+const INTERRUPTS: [ErrorKind; 3] = [ErrorKind::Interrupted; 3];
+
 #[test]
-fn standard_input_retries_an_interrupt(rt: HostRuntime) -> Result<(), Fail> {
+fn input_is_read_until_it_answers(rt: HostRuntime) -> Result<(), Fail> {
     let alloc = rt.alloc();
     let mut buf = *b"...";
     let mut input = StdIn::new(b"hi".as_slice());
     assert_eq!(rt; input.read(&mut buf), Got::Bytes(2));
     assert_eq!(rt; buf.as_slice(), b"hi.".as_slice());
-    let errors = vec![in alloc; ErrorKind::TimedOut, ErrorKind::Interrupted]?;
-    let mut input = StdIn::new(Faulty { errors });
+    let mut input = StdIn::new(Faulty::new(alloc, &INTERRUPTS, 0)?);
+    assert_eq!(rt; input.read(&mut buf), Got::Bytes(0));
+    let errors = [ErrorKind::TimedOut, ErrorKind::Interrupted];
+    let mut input = StdIn::new(Faulty::new(alloc, &errors, 0)?);
     assert_eq!(rt; input.read(&mut buf), Got::Failed);
     assert_eq!(rt; input.read(&mut buf), Got::Bytes(0));
     assert_eq!(rt; StdIn::new(rt.stdin()).read(&mut []), Got::Bytes(0));
     Ok(())
 }
 
+/// Asserts how two writes end where the writer has these errors first.
+fn assert_writes(
+    rt: &impl Abort,
+    alloc: Global,
+    errors: &[ErrorKind],
+    takes: usize,
+    writes: [Took; 2],
+) -> Result<(), AllocError> {
+    let mut out = StdOut::new(Faulty::new(alloc, errors, takes)?);
+    for took in writes {
+        assert_eq!(rt; out.write(b"hi"), took, "taking {takes}");
+    }
+    Ok(())
+}
+
 #[test]
-fn standard_output_fails_where_nothing_is_taken(rt: HostRuntime) -> Result<(), Fail> {
+fn output_is_written_until_it_answers(rt: HostRuntime) -> Result<(), Fail> {
     let alloc = rt.alloc();
     let mut written = Vec::new(alloc);
-    let mut out = StdOut::new(&mut written);
-    assert_eq!(rt; out.write(b"hi"), Took::Bytes(2));
+    assert_eq!(rt; StdOut::new(&mut written).write(b"hi"), Took::Bytes(2));
     assert_eq!(rt; written.as_slice(), b"hi".as_slice());
-    let errors = vec![in alloc; ErrorKind::BrokenPipe, ErrorKind::Interrupted]?;
-    let mut out = StdOut::new(Faulty { errors });
-    assert_eq!(rt; out.write(b"hi"), Took::Failed);
-    assert_eq!(rt; out.write(b"hi"), Took::Failed);
-    assert_eq!(rt; out.write(b""), Took::Bytes(0));
+    let (one, two) = (Took::Bytes(1), Took::Bytes(2));
+    assert_writes(&rt, alloc, &INTERRUPTS, 2, [two, two])?;
+    assert_writes(
+        &rt,
+        alloc,
+        &[ErrorKind::StorageFull],
+        1,
+        [Took::Failed, one],
+    )?;
+    assert_writes(&rt, alloc, &[ErrorKind::BrokenPipe], 5, [Took::Failed, two])?;
+    assert_writes(&rt, alloc, &[], 0, [Took::Failed, Took::Failed])?;
     assert_eq!(rt; StdOut::new(rt.stdout()).write(b""), Took::Bytes(0));
+    Ok(())
+}
+
+#[test]
+fn a_read_that_fails_appends_nothing(rt: HostRuntime) -> Result<(), Fail> {
+    let mut bytes = Vec::from_slice(rt.alloc(), b"> ")?;
+    let mut reader = b"hi"
+        .as_slice()
+        .chain(Faulty::new(rt.alloc(), &[ErrorKind::TimedOut], 0)?);
+    assert!(rt; append_all(&mut reader, &mut bytes).is_err());
+    assert_eq!(rt; bytes.as_slice(), b"> ".as_slice());
+    assert!(rt; append_all(&mut b"hi".as_slice(), &mut bytes).is_ok());
+    assert_eq!(rt; bytes.as_slice(), b"> hi".as_slice());
     Ok(())
 }

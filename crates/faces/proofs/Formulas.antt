@@ -51,11 +51,11 @@ no_contradiction conj e none (k, f, l, at, c) =
     let Has : Equation → Type 0 = λ z. Contains conj z in
     none (subst Has (sym (ap opposite (only_one e (opposite f) c) ∙ opposite_twice f)) (k, l, at))
 
-front_holds : (front back : List Literal) (v : Valuation) → (product_value (front ++ back) v).holds ≡ true → (product_value front v).holds ≡ true
-front_holds [] back v h = refl
-front_holds (literal ∷ front) back v h =
-    let both = and_parts (literal_value literal v).holds (product_value (front ++ back) v).holds h in
-    and_from (literal_value literal v).holds (product_value front v).holds both.0 (front_holds front back v both.1)
+prefix_holds : (before after : List Literal) (v : Valuation) → (product_value (before ++ after) v).holds ≡ true → (product_value before v).holds ≡ true
+prefix_holds [] after v h = refl
+prefix_holds (literal ∷ before) after v h =
+    let both = and_parts (literal_value literal v).holds (product_value (before ++ after) v).holds h in
+    and_from (literal_value literal v).holds (product_value before v).holds both.0 (prefix_holds before after v both.1)
 
 module _ (product : List Literal) (i : ℕ) (d : Literal) (e : Equation) (l : i < length product) (says : (x : Point) → equation_truth e x ≡ (literal_value (get_or product i d) (valuation_of x)).holds) where
   more_holds : (x : Point) → (product_value (take (i + 1) product) (valuation_of x)).holds ≡ ((product_value (take i product) (valuation_of x)).holds && equation_truth e x)
@@ -79,8 +79,8 @@ module _ (product : List Literal) (i : ℕ) (d : Literal) (e : Equation) (l : i 
       false_from_ne_true (product_value product (valuation_of x)).holds
       (λ h.
       let Holds : List Literal → Type 0 = λ z. (product_value z (valuation_of x)).holds ≡ true in
-      let front = front_holds (take (i + 1) product) (drop (i + 1) product) (valuation_of x) (subst Holds (sym (take-append-drop (i + 1) product)) h) in
-      let both = and_parts (product_value (take i product) (valuation_of x)).holds (equation_truth e x) (sym (more_holds x) ∙ front) in
+      let before = prefix_holds (take (i + 1) product) (drop (i + 1) product) (valuation_of x) (subst Holds (sym (take-append-drop (i + 1) product)) h) in
+      let both = and_parts (product_value (take i product) (valuation_of x)).holds (equation_truth e x) (sym (more_holds x) ∙ before) in
       never_both e x both.1 (passes_at (λ f. equation_truth f x) conj (opposite e) (p.truth x ∙ both.0) against))
 
 -- the face so far is true where one of the products so far is 1

@@ -5,4 +5,3 @@ pub mod Meeting
 pub mod Moved
 pub mod Formulas
 pub mod Open
-pub mod Stacked

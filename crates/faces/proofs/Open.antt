@@ -14,10 +14,10 @@ use Rattle.faces.specs.Meets.{CoversMeet, IsMeetOutside}
 abbrev AreTrue : List (List (List Equation)) → Point → Type 0
 AreTrue faces x = All (λ face. IsTrue (face_truth face x)) faces
 
--- where all the faces are true, one is that is front, or the goal
-pub record IsOpen (goal front : List (List Equation)) (faces : List (List (List Equation))) : Type 0 where
-  pub within : (x : Point) → face_truth front x ≡ true → AreTrue faces x
-  pub whole : (x : Point) → AreTrue faces x → (face_truth front x ≡ true) ⊎ (face_truth goal x ≡ true)
+-- where all the faces are true, the open face is, or the goal
+pub record IsOpen (goal opened : List (List Equation)) (faces : List (List (List Equation))) : Type 0 where
+  pub within : (x : Point) → face_truth opened x ≡ true → AreTrue faces x
+  pub whole : (x : Point) → AreTrue faces x → (face_truth opened x ≡ true) ⊎ (face_truth goal x ≡ true)
 
 pub open_first : (goal top : List (List Equation)) → ((x : Point) → face_truth top x ≡ true) → IsOpen goal top []
 open_first goal top everywhere = record {
@@ -39,8 +39,8 @@ fewer : (P : List (List Equation) → Type 0) (faces : List (List (List Equation
 fewer P faces i face l e all =
     let both = before_last P (take (i + 1) faces) (take i faces) (get_or faces i face) (take_more faces i face l) all in (both.0, subst P (sym e) both.1)
 
-pub open_more : (goal front new : List (List Equation)) (faces : List (List (List Equation))) (i : ℕ) (face : List (List Equation)) → i < length faces → face ≡ get_or faces i face → IsOpen goal front (take i faces) → IsMeetOutside goal front face new → IsOpen goal new (take (i + 1) faces)
-open_more goal front new faces i face l e p m = record {
+pub open_more : (goal opened new : List (List Equation)) (faces : List (List (List Equation))) (i : ℕ) (face : List (List Equation)) → i < length faces → face ≡ get_or faces i face → IsOpen goal opened (take i faces) → IsMeetOutside goal opened face new → IsOpen goal new (take (i + 1) faces)
+open_more goal opened new faces i face l e p m = record {
   within = λ x h.
       let both = m.within x h in
       All-more (λ f. IsTrue (face_truth f x)) faces i face l (p.within x both.0) (ap (λ f. face_truth f x) (sym e) ∙ both.1);
@@ -49,22 +49,22 @@ open_more goal front new faces i face l e p m = record {
       ⊎_elim (λ t. m.whole x t both.1) (λ t. inr t) (p.whole x both.0);
 }
 
-nothing_true : (front : List (List Equation)) (x : Point) → front ≡ [] → face_truth front x ≡ true → ⊥
-nothing_true front x e h = false≢true (ap (λ face. face_truth face x) (sym e) ∙ h)
+nothing_true : (opened : List (List Equation)) (x : Point) → opened ≡ [] → face_truth opened x ≡ true → ⊥
+nothing_true opened x e h = false≢true (ap (λ face. face_truth face x) (sym e) ∙ h)
 
--- nothing is front before all the faces were met
-pub holds_early : (goal front last : List (List Equation)) (faces others : List (List (List Equation))) (i : ℕ) → faces ≡ others ++ last ∷ [] → IsOpen goal front (take i others) → front ≡ [] → IsTrue true ↔ HoldsUnder faces goal
-holds_early goal front last faces others i e p none = (
+-- the open face is true nowhere before all the faces were met
+pub holds_early : (goal opened last : List (List Equation)) (faces others : List (List (List Equation))) (i : ℕ) → faces ≡ others ++ last ∷ [] → IsOpen goal opened (take i others) → opened ≡ [] → IsTrue true ↔ HoldsUnder faces goal
+holds_early goal opened last faces others i e p none = (
   λ h x all.
       let True : List (List Equation) → Type 0 = λ face. IsTrue (face_truth face x) in
       let both = before_last True faces others last e all in
-      ⊎_elim (λ t. absurd (nothing_true front x none t)) (λ t. t) (p.whole x (All-take True i others both.0)),
+      ⊎_elim (λ t. absurd (nothing_true opened x none t)) (λ t. t) (p.whole x (All-take True i others both.0)),
   λ h. refl,
 )
 
--- of the last face it is enough to know whether the goal is true where it and what is front are
-pub holds_at_last : (goal front last : List (List Equation)) (faces others : List (List (List Equation))) (r : Bool) → faces ≡ others ++ last ∷ [] → IsOpen goal front others → IsTrue r ↔ CoversMeet goal front last → IsTrue r ↔ HoldsUnder faces goal
-holds_at_last goal front last faces others r e p covers = (
+-- of the last face it is enough to know whether the goal is true where it and the open face are
+pub holds_at_last : (goal opened last : List (List Equation)) (faces others : List (List (List Equation))) (r : Bool) → faces ≡ others ++ last ∷ [] → IsOpen goal opened others → IsTrue r ↔ CoversMeet goal opened last → IsTrue r ↔ HoldsUnder faces goal
+holds_at_last goal opened last faces others r e p covers = (
   λ h x all.
       let both = before_last (λ face. IsTrue (face_truth face x)) faces others last e all in
       ⊎_elim (λ t. covers.0 h x t both.1) (λ t. t) (p.whole x both.0),

@@ -14,9 +14,14 @@ conj_truth conj point = list_all (λ equation. equation_truth equation point) co
 abbrev pub face_truth : List (List Equation) → Point → Bool
 face_truth face point = list_any (λ conj. conj_truth conj point) face
 
+-- the face is true at these points, and at no others
+abbrev pub IsTrueWhere : (Point → Bool) → List (List Equation) → Type 0
+IsTrueWhere truth face = (x : Point) → face_truth face x ≡ truth x
+
 -- a face is true at every point at which all the given faces are
 abbrev pub HoldsUnder : List (List (List Equation)) → List (List Equation) → Type 0
-HoldsUnder given face = (x : Point) → All (λ g. IsTrue (face_truth g x)) given → IsTrue (face_truth face x)
+HoldsUnder given face =
+    (x : Point) → All (λ g. IsTrue (face_truth g x)) given → IsTrue (face_truth face x)
 
 -- no name stands at both ends
 pub record IsConsistent (conj : List Equation) : Type 0 where
@@ -28,7 +33,8 @@ HasRisingNames = IsStrictlySortedBy name_cmp
 
 -- no conjunction is true wherever another one is
 pub record IsIrredundant (face : List (List Equation)) : Type 0 where
-  pub apart : (c d : List Equation) → Contains face c → Contains face d → ((x : Point) → IsTrue (conj_truth c x) → IsTrue (conj_truth d x)) → c ≡ d
+  pub apart : (c d : List Equation) → Contains face c → Contains face d
+      → ((x : Point) → IsTrue (conj_truth c x) → IsTrue (conj_truth d x)) → c ≡ d
 
 -- no equation is of this name
 abbrev pub LacksName : ℕ → List (List Equation) → Type 0

@@ -1,4 +1,3 @@
 pub mod Equations
 pub mod Faces
 pub mod Meets
-pub mod Stacks

@@ -23,7 +23,8 @@ impl Equation {
 
     /// The equation that is true where the literal is equal to the end.
     pub fn of(literal: Literal, end: bool) -> Equation
-        ensures { (x : Point) → equation_truth result x ≡ equals_end (literal_value literal (valuation_of x)) end }
+        ensures { (x : Point) → equation_truth result x
+            ≡ equals_end (literal_value literal (valuation_of x)) end }
     {
         Equation {
             name: literal.name,

@@ -1,16 +1,16 @@
 // Disjunctions of conjunctions of equations.
-ghost use Rattle.std.specs.Prelude.{◌≡◌, ◌↔◌, ◌&&◌, ◌||◌, false, true, List, [], All, Any, Contains, IsTrue, IfOk, MatchOption};
+ghost use Rattle.std.specs.Prelude.{◌≡◌, ◌↔◌, false, true, List, [], All, Any, Contains, IsTrue, IfOk, MatchOption};
 ghost use Rattle.std.specs.List.Sorted.{IsStrictlySortedBy};
 ghost use Rattle.std.specs.Cmp.Lexicographic.{slice_cmp};
 ghost use Rattle.antichains.specs.Antichains.{IsWithin};
 ghost use Rattle.points.specs.Points.{Point, with_free, with_end, valuation_of};
 ghost use Rattle.interval.specs.Forms.{product_value, form_value};
 ghost use Rattle.faces.specs.Equations.{equation_cmp, equals_end, opposite};
-ghost use Rattle.faces.specs.Faces.{conj_truth, face_truth, HoldsUnder, IsConsistent, HasRisingNames, IsIrredundant, LacksName};
+ghost use Rattle.faces.specs.Faces.{conj_truth, face_truth, IsTrueWhere, HoldsUnder, IsConsistent, HasRisingNames, IsIrredundant, LacksName};
 ghost use Rattle.faces.specs.Meets.{ImpliesTogether, CoversMeet, IsMergeOutside, IsMeetOutside};
 
 use crate::equations::Equation;
-use antichains::Antichain;
+use antichains::{Antichain, Lattice, Stack};
 use interval::{Form, Product};
 use std::alloc::{AllocError, Global};
 use std::marker::Model;
@@ -37,17 +37,20 @@ impl Model for Face {
     ghost invariant = { λ face. All IsConsistent face.conjs };
 }
 
+/// The faces of trees that wait for their operator.
+pub type FaceStack = Stack<Face>;
+
 impl Face {
     /// The face that is true at no point: the disjunction of nothing.
     pub fn bottom(alloc: Global) -> Result<Face, AllocError>
-        ensures { IfOk result (λ face. (x : Point) → face_truth face x ≡ false) }
+        ensures { IfOk result (IsTrueWhere (λ _. false)) }
     {
         Face::from_conjs(Vec::new(alloc))
     }
 
     /// The face that is true at every point: the conjunction of nothing.
     pub fn top(alloc: Global) -> Result<Face, AllocError>
-        ensures { IfOk result (λ face. (x : Point) → face_truth face x ≡ true) }
+        ensures { IfOk result (IsTrueWhere (λ _. true)) }
     {
         let mut conjs = Vec::with_capacity(alloc, 1)?;
         conjs.push(Conj::new(alloc))?;
@@ -56,7 +59,7 @@ impl Face {
 
     /// The face that is true where the form is equal to the end, 1 for `true` and 0 for `false`.
     pub fn eq(alloc: Global, form: &Form, end: bool) -> Result<Face, AllocError>
-        ensures { IfOk result (λ face. (x : Point) → face_truth face x ≡ equals_end (form_value form.now (valuation_of x)) end) }
+        ensures { IfOk result (IsTrueWhere (λ x. equals_end (form_value form.now (valuation_of x)) end)) }
     {
         if end {
             Face::where_one(alloc, form)
@@ -75,26 +78,9 @@ impl Face {
         self.conjs.products()
     }
 
-    /// The face that is true where one of the two is.
-    pub fn join(&self, other: &Face) -> Result<Face, AllocError>
-        ensures { IfOk result (λ face. (x : Point) → face_truth face x ≡ (face_truth self.now x || face_truth other.now x)) }
-    {
-        Ok(Face {
-            conjs: self.conjs.join(&other.conjs)?,
-        })
-    }
-
-    /// The face that is true where both are: at m and n conjunctions at most m * n merges, and one normal form. A merge with
-    /// a name at both ends is dropped.
-    pub fn meet(&self, other: &Face) -> Result<Face, AllocError>
-        ensures { IfOk result (λ face. (x : Point) → face_truth face x ≡ (face_truth self.now x && face_truth other.now x)) }
-    {
-        self.meet_outside(other, &Face::bottom(self.alloc())?)
-    }
-
     /// The face that is true where this one is with the name free: without the conjunctions that have the name.
     pub fn forall(&self, name: u64) -> Result<Face, AllocError>
-        ensures truth { IfOk result (λ face. (x : Point) → face_truth face x ≡ face_truth self.now (with_free name x)) }
+        ensures truth { IfOk result (IsTrueWhere (λ x. face_truth self.now (with_free name x))) }
         ensures gone { IfOk result (LacksName name) }
     {
         let mut conjs = Vec::new(self.alloc());
@@ -108,7 +94,7 @@ impl Face {
 
     /// The face that is true where this one is with the name at the end, 1 for `true` and 0 for `false`.
     pub fn restrict(&self, name: u64, end: bool) -> Result<Face, AllocError>
-        ensures truth { IfOk result (λ face. (x : Point) → face_truth face x ≡ face_truth self.now (with_end name end x)) }
+        ensures truth { IfOk result (IsTrueWhere (λ x. face_truth self.now (with_end name end x))) }
         ensures gone { IfOk result (LacksName name) }
     {
         let equation = Equation { name, end };
@@ -140,11 +126,40 @@ impl Face {
     }
 }
 
+impl Lattice for Face {
+    ghost use Rattle.std.specs.Prelude.{Bool, ◌&&◌, ◌||◌};
+    ghost use Rattle.points.specs.Points.{Point};
+    ghost use Rattle.faces.specs.Faces.{face_truth};
+
+    ghost Place = { Point };
+
+    ghost Worth = { Bool };
+
+    ghost worth = { face_truth };
+
+    ghost both = { λ b c. b && c };
+
+    ghost either = { λ b c. b || c };
+
+    /// The face that is true where both are: at m and n conjunctions at most m * n merges, and one normal form. A merge with
+    /// a name at both ends is dropped.
+    fn meet(&self, other: &Face) -> Result<Face, AllocError> {
+        self.meet_outside(other, &Face::bottom(self.alloc())?)
+    }
+
+    /// The face that is true where one of the two is.
+    fn join(&self, other: &Face) -> Result<Face, AllocError> {
+        Ok(Face {
+            conjs: self.conjs.join(&other.conjs)?,
+        })
+    }
+}
+
 impl Face {
     /// The face of some conjunctions.
     fn from_conjs(conjs: Vec<Conj>) -> Result<Face, AllocError>
         requires { All IsConsistent conjs.items }
-        ensures truth { IfOk result (λ face. (x : Point) → face_truth face x ≡ face_truth conjs.items x) }
+        ensures truth { IfOk result (IsTrueWhere (face_truth conjs.items)) }
         ensures among { IfOk result (λ face. IsWithin face conjs.items) }
     {
         Ok(Face {
@@ -154,7 +169,7 @@ impl Face {
 
     /// The face that is true where the form is 1: where all literals of one product are.
     fn where_one(alloc: Global, form: &Form) -> Result<Face, AllocError>
-        ensures { IfOk result (λ face. (x : Point) → face_truth face x ≡ (form_value form.now (valuation_of x)).holds) }
+        ensures { IfOk result (IsTrueWhere (λ x. (form_value form.now (valuation_of x)).holds)) }
     {
         let mut conjs = Vec::new(alloc);
         for product in form.products() {
@@ -167,7 +182,7 @@ impl Face {
 
     /// The face that is true where the form is 0: where one literal of each product is.
     fn where_zero(alloc: Global, form: &Form) -> Result<Face, AllocError>
-        ensures { IfOk result (λ face. (x : Point) → face_truth face x ≡ (form_value form.now (valuation_of x)).fails) }
+        ensures { IfOk result (IsTrueWhere (λ x. (form_value form.now (valuation_of x)).fails)) }
     {
         let mut face = Face::top(alloc)?;
         for product in form.products() {
@@ -178,7 +193,7 @@ impl Face {
 
     /// The face that is true where one literal of the product is 0.
     fn where_some_is_zero(alloc: Global, product: &Product) -> Result<Face, AllocError>
-        ensures { IfOk result (λ face. (x : Point) → face_truth face x ≡ (product_value product.now (valuation_of x)).fails) }
+        ensures { IfOk result (IsTrueWhere (λ x. (product_value product.now (valuation_of x)).fails)) }
     {
         let mut conjs = Vec::with_capacity(alloc, product.len())?;
         for literal in product.elements() {
@@ -241,9 +256,10 @@ impl Face {
 
 /// The conjunction that is true where all literals of the product are 1; none where two of them contradict each other.
 fn where_all_are_one(alloc: Global, product: &Product) -> Result<Option<Conj>, AllocError>
-    ensures { IfOk result (λ found. MatchOption found
-        ((x : Point) → (product_value product.now (valuation_of x)).holds ≡ false)
-        (λ conj. IsConsistent conj × ((x : Point) → conj_truth conj x ≡ (product_value product.now (valuation_of x)).holds))) }
+    ensures { let truth = λ (x : Point). (product_value product.now (valuation_of x)).holds in
+        IfOk result (λ found. MatchOption found
+        ((x : Point) → truth x ≡ false)
+        (λ conj. IsConsistent conj × ((x : Point) → conj_truth conj x ≡ truth x))) }
 {
     let mut conj = Conj::new(alloc);
     for literal in product.elements() {

@@ -1,5 +1,8 @@
 //! Faces of a cube: disjunctions of conjunctions of equations between a name and an end, in a normal form.
 //!
+//! The face `(i = 0) ∧ ((j = 1) ∨ (k = 0))` is kept as `(i = 0)(j = 1) ∨ (i = 0)(k = 0)`. It holds under `(i = 0)(k = 0)`, its
+//! `forall(j)` is `(i = 0)(k = 0)`, and its `restrict(i, true)` is true nowhere.
+//!
 //! A name may be free, and then it is at neither end. So the join of its two ends does not hold everywhere, and what is true
 //! at a point stays true where more names are at an end. That makes implication easy to decide: a conjunction implies a face
 //! exactly where it has one of the face's conjunctions within it.
@@ -11,11 +14,10 @@
 
 pub mod equations;
 pub mod faces;
-pub mod stack;
 
+pub use antichains::Lattice;
 pub use equations::Equation;
-pub use faces::{Conj, Face};
-pub use stack::FaceStack;
+pub use faces::{Conj, Face, FaceStack};
 
 #[cfg(test)]
 mod tests;

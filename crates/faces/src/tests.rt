@@ -1,71 +1,75 @@
 // Faces written in postfix, with what they are and what they follow from.
 ghost use Rattle.std.specs.Prelude.{◌≡◌, false, IfOk};
 
-use crate::equations::Equation;
-use crate::faces::{Conj, Face};
-use crate::stack::FaceStack;
+use crate::{Equation, Face, FaceStack, Lattice};
+use antichains::Stack;
 use interval::{Form, FormStack};
 use std::alloc::{AllocError, Global};
 use std::process::Abort;
 
-/// Does what a symbol of a form says: `a` to `z` are names, `-` negates, `&` meets and `|` joins.
-fn step_form(rt: &impl Abort, forms: &mut FormStack, symbol: u8) -> Result<(), AllocError> {
-    match symbol {
-        b'-' => {
-            assert!(rt; forms.len() >= 1);
-            forms.neg()
-        }
-        b'&' => {
-            assert!(rt; forms.len() >= 2);
-            forms.meet()
-        }
-        b'|' => {
-            assert!(rt; forms.len() >= 2);
-            forms.join()
-        }
-        name => forms.push_name(u64::from(name)),
-    }
+/// Replaces the two items on top by their meet or their join.
+fn combine<T: Lattice>(
+    rt: &impl Abort,
+    stack: &mut Stack<T>,
+    meets: bool,
+) -> Result<(), AllocError> {
+    assert!(rt; stack.len() >= 2);
+    if meets { stack.meet() } else { stack.join() }
 }
 
-/// Does what a symbol of a face says: `0` and `1` take the form that is to be at that end, `_` is false, `^` is true, `*`
-/// meets, `+` joins, and `A` to `Z` make the names `a` to `z` free.
-fn step_face(
+/// Does what a symbol of a form says: `a` to `z` are names, `-` negates, `&` meets and `|` joins.
+fn step_form(
     rt: &impl Abort,
-    faces: &mut FaceStack,
+    alloc: Global,
     forms: &mut FormStack,
     symbol: u8,
 ) -> Result<(), AllocError> {
     match symbol {
-        b'_' => faces.push_bottom(),
-        b'^' => faces.push_top(),
-        b'*' => {
-            assert!(rt; faces.len() >= 2);
-            faces.meet()
+        b'&' | b'|' => combine(rt, forms, symbol == b'&'),
+        b'-' => {
+            assert!(rt; !forms.is_empty());
+            let form = forms.pop();
+            forms.push(form.neg()?)
         }
-        b'+' => {
-            assert!(rt; faces.len() >= 2);
-            faces.join()
-        }
+        name => forms.push(Form::name(alloc, u64::from(name))?),
+    }
+}
+
+/// The face of a symbol: `_` is false, `^` is true, `0` and `1` take the form that is to be at that end, and `A` to `Z` make
+/// the names `a` to `z` of the face on top free.
+fn face_from(
+    rt: &impl Abort,
+    alloc: Global,
+    forms: &mut FormStack,
+    faces: &mut FaceStack,
+    symbol: u8,
+) -> Result<Face, AllocError> {
+    match symbol {
+        b'_' => Face::bottom(alloc),
+        b'^' => Face::top(alloc),
         b'0' | b'1' => {
             assert!(rt; !forms.is_empty());
-            faces.push_eq(&forms.pop(), symbol == b'1')
+            Face::eq(alloc, &forms.pop(), symbol == b'1')
         }
         name => {
-            assert!(rt; faces.len() >= 1);
-            faces.forall(u64::from(name.to_ascii_lowercase()))
+            assert!(rt; !faces.is_empty());
+            faces.pop().forall(u64::from(name.to_ascii_lowercase()))
         }
     }
 }
 
-/// The faces that a postfix text leaves.
+/// The faces that a postfix text leaves; `*` meets and `+` joins.
 fn faces_of(rt: &impl Abort, alloc: Global, text: &str) -> Result<FaceStack, AllocError> {
     let mut forms = FormStack::new(alloc);
     let mut faces = FaceStack::new(alloc);
     for symbol in text.as_bytes() {
-        if matches!(*symbol, b'a'..=b'z' | b'-' | b'&' | b'|') {
-            step_form(rt, &mut forms, *symbol)?;
-        } else {
-            step_face(rt, &mut faces, &mut forms, *symbol)?;
+        match *symbol {
+            b'a'..=b'z' | b'-' | b'&' | b'|' => step_form(rt, alloc, &mut forms, *symbol)?,
+            b'*' | b'+' => combine(rt, &mut faces, *symbol == b'*')?,
+            _ => {
+                let face = face_from(rt, alloc, &mut forms, &mut faces, *symbol)?;
+                faces.push(face)?;
+            }
         }
     }
     Ok(faces)
@@ -78,158 +82,73 @@ fn face_of(rt: &impl Abort, alloc: Global, text: &str) -> Result<Face, AllocErro
     Ok(faces.pop())
 }
 
-/// The formula of a postfix text.
-fn form_of(rt: &impl Abort, alloc: Global, text: &str) -> Result<Form, AllocError> {
-    let mut forms = FormStack::new(alloc);
-    for symbol in text.as_bytes() {
-        step_form(rt, &mut forms, *symbol)?;
-    }
-    assert!(rt; !forms.is_empty());
-    Ok(forms.pop())
-}
-
-fn push_conj(text: &mut String, conj: &Conj) -> Result<(), AllocError> {
-    if conj.is_empty() {
-        text.push('^')?;
-    }
-    for (place, equation) in conj.elements().iter().enumerate() {
-        if place > 0 {
-            text.push(' ')?;
-        }
-        text.push(u8::try_from(equation.name).map_or('?', char::from))?;
-        text.push(if equation.end { '1' } else { '0' })?;
-    }
-    Ok(())
-}
-
-/// The conjunctions as text.
-fn text_of(alloc: Global, face: &Face) -> Result<String, AllocError> {
-    let mut text = String::new(alloc);
-    if face.parts().is_empty() {
-        text.push('_')?;
-    }
-    for (place, conj) in face.parts().iter().enumerate() {
-        if place > 0 {
-            text.push_str(" + ")?;
-        }
-        push_conj(&mut text, conj)?;
-    }
-    Ok(text)
-}
-
-/// Asserts what a face is, and from what it was made.
+/// Asserts that a face made from one text has the conjunctions of another text's.
 fn assert_is(
     rt: &impl Abort,
     alloc: Global,
     face: &Face,
-    normal: &str,
     text: &str,
+    normal: &str,
 ) -> Result<(), AllocError> {
-    let shown = text_of(alloc, face)?;
-    assert_eq!(rt; shown.as_str(), normal, "at {text}");
+    let wanted = face_of(rt, alloc, normal)?;
+    assert!(rt; face.parts() == wanted.parts(), "{text} is not {normal}");
     Ok(())
 }
 
 #[test]
-fn faces_are_normal(rt: HostRuntime) -> Result<(), AllocError> {
+fn faces_have_a_normal_form(rt: HostRuntime) -> Result<(), AllocError> {
     for (text, normal) in [
-        ("_", "_"),
-        ("^", "^"),
         ("a0a1*", "_"),
-        ("a0a1+", "a0 + a1"),
-        ("b1a0*", "a0 b1"),
-        ("b1a0+", "a0 + b1"),
+        ("a0_*", "_"),
+        ("a0^*", "a0"),
+        ("a0_+", "a0"),
+        ("b1a0*", "a0b1*"),
         ("a0a0b1*+", "a0"),
-        ("a0b1+c0*", "a0 c0 + b1 c0"),
-        ("a0b1+a1b0+*", "a0 b0 + a1 b1"),
+        ("a0b1+c0*", "a0c0*b1c0*+"),
+        ("a0b1+a1b0+*", "a0b0*a1b1*+"),
         ("a0b1+A", "b1"),
         ("a0b1*A", "_"),
         ("a0b1+^+A", "^"),
+        ("a-0", "a1"),
+        ("ab&0", "a0b0+"),
+        ("ab|0", "a0b0*"),
+        ("aa-&1", "_"),
+        ("aa-|1", "a0a1+"),
+        ("ab-|a-b|&0", "a0b1*a1b0*+"),
+        ("ab&c-d&|1", "a1b1*c0d1*+"),
     ] {
-        assert_is(
-            &rt,
-            rt.alloc(),
-            &face_of(&rt, rt.alloc(), text)?,
-            normal,
-            text,
-        )?;
+        let face = face_of(&rt, rt.alloc(), text)?;
+        assert_is(&rt, rt.alloc(), &face, text, normal)?;
     }
     Ok(())
-}
-
-/// Asserts where the formula of a postfix text is at an end.
-fn assert_at_end(
-    rt: &impl Abort,
-    alloc: Global,
-    text: &str,
-    end: bool,
-    normal: &str,
-) -> Result<(), AllocError> {
-    let face = Face::eq(alloc, &form_of(rt, alloc, text)?, end)?;
-    assert_is(rt, alloc, &face, normal, text)
-}
-
-#[test]
-fn formulas_are_at_ends(rt: HostRuntime) -> Result<(), AllocError> {
-    for (text, zero, one) in [
-        ("a", "a0", "a1"),
-        ("a-", "a1", "a0"),
-        ("ab&", "a0 + b0", "a1 b1"),
-        ("ab|", "a0 b0", "a1 + b1"),
-        ("aa-&", "a0 + a1", "_"),
-        ("aa-|", "_", "a0 + a1"),
-        ("ab-|a-b|&", "a0 b1 + a1 b0", "a0 b0 + a1 b1"),
-        ("ab&c-d&|", "a0 c1 + a0 d0 + b0 c1 + b0 d0", "a1 b1 + c0 d1"),
-    ] {
-        assert_at_end(&rt, rt.alloc(), text, false, zero)?;
-        assert_at_end(&rt, rt.alloc(), text, true, one)?;
-    }
-    Ok(())
-}
-
-/// Asserts what the face of a postfix text is with `a` at an end.
-fn assert_restricted(
-    rt: &impl Abort,
-    alloc: Global,
-    text: &str,
-    end: bool,
-    normal: &str,
-) -> Result<(), AllocError> {
-    let face = face_of(rt, alloc, text)?.restrict(u64::from(b'a'), end)?;
-    assert_is(rt, alloc, &face, normal, text)
 }
 
 #[test]
 fn names_are_put_at_ends(rt: HostRuntime) -> Result<(), AllocError> {
-    for (text, zero, one) in [
-        ("a0b1*", "b1", "_"),
-        ("a0b1+", "^", "b1"),
-        ("a0b0*a1c1*+", "b0", "c1"),
-        ("b0", "b0", "b0"),
+    for (text, end, restricted) in [
+        ("a0b1*", false, "b1"),
+        ("a0b1*", true, "_"),
+        ("a0b1+", false, "^"),
+        ("a0b1+", true, "b1"),
+        ("a0b0*a1c1*+", false, "b0"),
+        ("a0b0*a1c1*+", true, "c1"),
+        ("b0", true, "b0"),
     ] {
-        assert_restricted(&rt, rt.alloc(), text, false, zero)?;
-        assert_restricted(&rt, rt.alloc(), text, true, one)?;
+        let face = face_of(&rt, rt.alloc(), text)?.restrict(u64::from(b'a'), end)?;
+        assert_is(&rt, rt.alloc(), &face, text, restricted)?;
     }
     Ok(())
 }
 
-/// Asserts whether the face of a postfix text is true where all faces of another one are.
-fn assert_holds(
-    rt: &impl Abort,
-    alloc: Global,
-    text: &str,
-    given: &str,
-    holds: bool,
-) -> Result<(), AllocError> {
-    let mut stack = faces_of(rt, alloc, given)?;
-    let mut faces = Vec::new(alloc);
+/// The faces that a postfix text leaves, the last one first.
+fn given_by(rt: &impl Abort, alloc: Global, text: &str) -> Result<Vec<Face>, AllocError> {
+    let mut stack = faces_of(rt, alloc, text)?;
+    let mut given = Vec::new(alloc);
     for _ in 0..stack.len() {
         assert!(rt; !stack.is_empty());
-        faces.push(stack.pop())?;
+        given.push(stack.pop())?;
     }
-    let face = face_of(rt, alloc, text)?;
-    assert_eq!(rt; face.holds_under(&faces)?, holds, "at {text} under {given}");
-    Ok(())
+    Ok(given)
 }
 
 #[test]
@@ -251,8 +170,13 @@ fn faces_hold(rt: HostRuntime) -> Result<(), AllocError> {
         ("a0b1+", "a0c1+b1c1+", false),
         ("d1b1c0*+", "a0b0+a1c0+b1d1+", true),
         ("d1", "a0b0+a1c0+b1d1+", false),
+        ("d1", "a0b0+a1c0+b1c1+c0d1+", false),
+        ("d1b1c0*+", "a0b0+a1c0+b1d1+e0", true),
+        ("a0", "a0b0+a0b1+c0d0", true),
     ] {
-        assert_holds(&rt, rt.alloc(), text, given, holds)?;
+        let given = given_by(&rt, rt.alloc(), given)?;
+        let found = face_of(&rt, rt.alloc(), text)?.holds_under(&given)?;
+        assert_eq!(rt; found, holds, "at {text}");
     }
     Ok(())
 }
@@ -268,15 +192,6 @@ fn circle(alloc: Global) -> Result<Face, AllocError> {
     Ok(face)
 }
 
-#[test]
-fn a_dozen_conjunctions_of_a_dozen_names(rt: HostRuntime) -> Result<(), AllocError> {
-    let face = circle(rt.alloc())?;
-    assert_eq!(rt; face.parts().len(), 12);
-    assert_eq!(rt; face.forall(3)?.parts().len(), 10);
-    assert_eq!(rt; face.restrict(3, true)?.parts().len(), 11);
-    Ok(())
-}
-
 /// One of the names 0 to 11 is at 0.
 fn some_zero(alloc: Global) -> Result<Face, AllocError> {
     let mut face = Face::bottom(alloc)?;
@@ -287,20 +202,14 @@ fn some_zero(alloc: Global) -> Result<Face, AllocError> {
 }
 
 #[test]
-fn a_dozen_names_hold(rt: HostRuntime) -> Result<(), AllocError> {
+fn a_dozen_conjunctions_of_a_dozen_names(rt: HostRuntime) -> Result<(), AllocError> {
     let given = [circle(rt.alloc())?];
+    assert_eq!(rt; given[0].parts().len(), 12);
+    assert_eq!(rt; given[0].forall(3)?.parts().len(), 10);
+    assert_eq!(rt; given[0].restrict(3, true)?.parts().len(), 11);
     let face = some_zero(rt.alloc())?;
     assert!(rt; face.holds_under(&given)?);
     assert!(rt; !face.forall(5)?.holds_under(&given)?);
-    Ok(())
-}
-
-#[test]
-fn stacks_take_faces(rt: HostRuntime) -> Result<(), AllocError> {
-    let mut stack = FaceStack::new(rt.alloc());
-    stack.push(Face::top(rt.alloc())?)?;
-    stack.push_bottom()?;
-    assert_eq!(rt; stack.len(), 2);
     Ok(())
 }
 
@@ -316,12 +225,13 @@ fn ends_hold(alloc: Global, name: u64) -> Result<bool, AllocError>
 #[test]
 fn ends_do_not_hold(rt: HostRuntime) -> Result<(), AllocError> {
     assert!(rt; !ends_hold(rt.alloc(), 0)?);
-    assert!(rt;
-        Equation { name: 0, end: true }.opposite()
-            == Equation {
-                name: 0,
-                end: false
-            }
+    let (zero, one) = (
+        Equation {
+            name: 0,
+            end: false,
+        },
+        Equation { name: 0, end: true },
     );
+    assert!(rt; one.opposite() == zero);
     Ok(())
 }

@@ -2,4 +2,3 @@ pub mod Laws
 pub mod Truths
 pub mod Replaced
 pub mod Realized
-pub mod Stacked

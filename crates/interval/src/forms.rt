@@ -1,12 +1,12 @@
 // Sums of products of literals.
 ghost use Rattle.std.specs.Prelude.{◌≡◌, ◌↔◌, List, IsTrue, IfOk};
 ghost use Rattle.antichains.specs.Antichains.{IsNormal, IsWithin};
-ghost use Rattle.points.specs.Values.{Valuation, value_at, with_value, zero_value, one_value, end_value, negation, meet, join};
+ghost use Rattle.points.specs.Values.{value_at, with_value, zero_value, one_value, end_value, negation};
 ghost use Rattle.interval.specs.Literals.{literal_cmp};
-ghost use Rattle.interval.specs.Forms.{product_value, form_value, LacksName};
+ghost use Rattle.interval.specs.Forms.{product_value, form_value, HasValue, LacksName};
 
 use crate::literals::Literal;
-use antichains::Antichain;
+use antichains::{Antichain, Lattice, Stack};
 use std::alloc::{AllocError, Global};
 use std::marker::Model;
 
@@ -28,10 +28,13 @@ impl Model for Form {
     ghost view = { λ form. form.sum };
 }
 
+/// The forms of trees that wait for their operator.
+pub type FormStack = Stack<Form>;
+
 impl Form {
     /// The end 0: the sum of nothing.
     pub fn zero(alloc: Global) -> Result<Form, AllocError>
-        ensures { IfOk result (λ form. (valuation : Valuation) → form_value form valuation ≡ zero_value) }
+        ensures { IfOk result (HasValue (λ _. zero_value)) }
     {
         Ok(Form {
             sum: Antichain::new(alloc),
@@ -40,14 +43,14 @@ impl Form {
 
     /// The end 1: the product of nothing.
     pub fn one(alloc: Global) -> Result<Form, AllocError>
-        ensures { IfOk result (λ form. (valuation : Valuation) → form_value form valuation ≡ one_value) }
+        ensures { IfOk result (HasValue (λ _. one_value)) }
     {
         Form::from_product(alloc, Product::new(alloc))
     }
 
     /// The name itself.
     pub fn name(alloc: Global, name: u64) -> Result<Form, AllocError>
-        ensures { IfOk result (λ form. (valuation : Valuation) → form_value form valuation ≡ value_at valuation name) }
+        ensures { IfOk result (HasValue (λ valuation. value_at valuation name)) }
     {
         let literal = Literal {
             name,
@@ -58,7 +61,7 @@ impl Form {
 
     /// The sum of one product.
     fn from_product(alloc: Global, product: Product) -> Result<Form, AllocError>
-        ensures { IfOk result (λ form. (valuation : Valuation) → form_value form valuation ≡ product_value product valuation) }
+        ensures { IfOk result (HasValue (product_value product)) }
     {
         let mut products = Vec::with_capacity(alloc, 1)?;
         products.push(product)?;
@@ -67,7 +70,7 @@ impl Form {
 
     /// The sum of some products.
     fn from_products(products: Vec<Product>) -> Result<Form, AllocError>
-        ensures value { IfOk result (λ form. (valuation : Valuation) → form_value form valuation ≡ form_value products.items valuation) }
+        ensures value { IfOk result (HasValue (form_value products.items)) }
         ensures among { IfOk result (λ form. IsWithin form products.items) }
     {
         Ok(Form {
@@ -85,36 +88,15 @@ impl Form {
 
     /// Whether the two forms have the same value under every valuation. They do exactly where they are the same list.
     pub fn same(&self, other: &Form) -> bool
-        ensures values { IsTrue result
-            ↔ ((valuation : Valuation) → form_value self.now valuation ≡ form_value other.now valuation) }
+        ensures values { IsTrue result ↔ HasValue (form_value other.now) self.now }
         ensures lists { IsTrue result ↔ (self.now ≡ other.now) }
     {
         self.sum.same(&other.sum)
     }
 
-    /// The sum of the products of both.
-    pub fn join(&self, other: &Form) -> Result<Form, AllocError>
-        ensures { IfOk result (λ form. (valuation : Valuation) → form_value form valuation
-            ≡ join (form_value self.now valuation) (form_value other.now valuation)) }
-    {
-        Ok(Form {
-            sum: self.sum.join(&other.sum)?,
-        })
-    }
-
-    /// The sum of the products of one of each: at m and n products m * n merges, and one normal form.
-    pub fn meet(&self, other: &Form) -> Result<Form, AllocError>
-        ensures { IfOk result (λ form. (valuation : Valuation) → form_value form valuation
-            ≡ meet (form_value self.now valuation) (form_value other.now valuation)) }
-    {
-        Ok(Form {
-            sum: self.sum.meet(&other.sum)?,
-        })
-    }
-
     /// The negation: by De Morgan's laws, the meet over all products of the join of their negated literals.
     pub fn neg(&self) -> Result<Form, AllocError>
-        ensures { IfOk result (λ form. (valuation : Valuation) → form_value form valuation ≡ negation (form_value self.now valuation)) }
+        ensures { IfOk result (HasValue (λ valuation. negation (form_value self.now valuation))) }
     {
         let mut form = Form::one(self.alloc())?;
         for product in self.products() {
@@ -125,8 +107,8 @@ impl Form {
 
     /// The form with the name replaced by an end, 1 for `true` and 0 for `false`.
     pub fn at(&self, name: u64, end: bool) -> Result<Form, AllocError>
-        ensures value { IfOk result (λ form. (valuation : Valuation) → form_value form valuation
-            ≡ form_value self.now (with_value name (end_value end) valuation)) }
+        ensures value { IfOk result (HasValue (λ valuation.
+            form_value self.now (with_value name (end_value end) valuation))) }
         ensures gone { IfOk result (LacksName name) }
     {
         let one = Literal {
@@ -145,7 +127,7 @@ impl Form {
 
     /// The negation of a product: the sum of its negated literals.
     fn negated(alloc: Global, product: &Product) -> Result<Form, AllocError>
-        ensures { IfOk result (λ form. (valuation : Valuation) → form_value form valuation ≡ negation (product_value product.now valuation)) }
+        ensures { IfOk result (HasValue (λ valuation. negation (product_value product.now valuation))) }
     {
         let mut products = Vec::with_capacity(alloc, product.len())?;
         for literal in product.elements() {
@@ -157,5 +139,33 @@ impl Form {
     /// The allocator that the form keeps.
     fn alloc(&self) -> Global {
         self.sum.alloc()
+    }
+}
+
+impl Lattice for Form {
+    ghost use Rattle.points.specs.Values.{Value, Valuation, meet, join};
+    ghost use Rattle.interval.specs.Forms.{form_value};
+
+    ghost Place = { Valuation };
+
+    ghost Worth = { Value };
+
+    ghost worth = { form_value };
+
+    ghost both = { meet };
+
+    ghost either = { join };
+
+    /// At m and n products it takes m * n merges, and one normal form.
+    fn meet(&self, other: &Form) -> Result<Form, AllocError> {
+        Ok(Form {
+            sum: self.sum.meet(&other.sum)?,
+        })
+    }
+
+    fn join(&self, other: &Form) -> Result<Form, AllocError> {
+        Ok(Form {
+            sum: self.sum.join(&other.sum)?,
+        })
     }
 }

@@ -21,7 +21,8 @@ impl Literal {
 
     /// The negation of this literal.
     pub fn negation(self) -> Literal
-        ensures { (valuation : Valuation) → literal_value result valuation ≡ negation (literal_value self valuation) }
+        ensures { (valuation : Valuation) →
+            literal_value result valuation ≡ negation (literal_value self valuation) }
     {
         Literal {
             name: self.name,

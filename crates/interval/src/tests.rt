@@ -1,104 +1,79 @@
 // Forms written in postfix, with what they are; and laws that hold of all forms.
 ghost use Rattle.std.specs.Prelude.{◌≡◌, true, false, IfOk};
 
-use crate::forms::{Form, Product};
-use crate::literals::Literal;
-use crate::stack::FormStack;
+use crate::{Form, FormStack, Lattice, Literal};
 use std::alloc::{AllocError, Global};
 use std::process::Abort;
 
-/// The form of a postfix text: `a` to `z` are names, `0` and `1` the ends, `-` negates, `&` meets and `|` joins.
+/// Does what a symbol of a postfix text says: `a` to `z` are names, `0` and `1` the ends, `-` negates, `&` meets and `|`
+/// joins.
+fn step(
+    rt: &impl Abort,
+    alloc: Global,
+    stack: &mut FormStack,
+    symbol: u8,
+) -> Result<(), AllocError> {
+    match symbol {
+        b'0' => stack.push(Form::zero(alloc)?),
+        b'1' => stack.push(Form::one(alloc)?),
+        b'-' => {
+            assert!(rt; !stack.is_empty());
+            let form = stack.pop();
+            stack.push(form.neg()?)
+        }
+        b'&' => {
+            assert!(rt; stack.len() >= 2);
+            stack.meet()
+        }
+        b'|' => {
+            assert!(rt; stack.len() >= 2);
+            stack.join()
+        }
+        name => stack.push(Form::name(alloc, u64::from(name))?),
+    }
+}
+
+/// The form of a postfix text.
 fn form_of(rt: &impl Abort, alloc: Global, text: &str) -> Result<Form, AllocError> {
     let mut stack = FormStack::new(alloc);
     for symbol in text.as_bytes() {
-        match *symbol {
-            b'0' => stack.push_zero()?,
-            b'1' => stack.push_one()?,
-            b'-' => {
-                assert!(rt; stack.len() >= 1);
-                stack.neg()?;
-            }
-            b'&' => {
-                assert!(rt; stack.len() >= 2);
-                stack.meet()?;
-            }
-            b'|' => {
-                assert!(rt; stack.len() >= 2);
-                stack.join()?;
-            }
-            name => stack.push_name(u64::from(name))?,
-        }
+        step(rt, alloc, &mut stack, *symbol)?;
     }
     assert!(rt; !stack.is_empty());
     Ok(stack.pop())
 }
 
-fn push_literal(text: &mut String, literal: Literal) -> Result<(), AllocError> {
-    if literal.negated {
-        text.push('-')?;
-    }
-    text.push(u8::try_from(literal.name).map_or('?', char::from))
-}
-
-fn push_product(text: &mut String, product: &Product) -> Result<(), AllocError> {
-    if product.is_empty() {
-        text.push('1')?;
-    }
-    for (place, literal) in product.elements().iter().enumerate() {
-        if place > 0 {
-            text.push(' ')?;
-        }
-        push_literal(text, *literal)?;
-    }
-    Ok(())
-}
-
-/// The sum of products as text.
-fn text_of(alloc: Global, form: &Form) -> Result<String, AllocError> {
-    let mut text = String::new(alloc);
-    if form.products().is_empty() {
-        text.push('0')?;
-    }
-    for (place, product) in form.products().iter().enumerate() {
-        if place > 0 {
-            text.push_str(" + ")?;
-        }
-        push_product(&mut text, product)?;
-    }
-    Ok(text)
-}
-
-/// Asserts what the form of a postfix text is.
-fn assert_normal(
+/// Asserts whether the forms of two postfix texts are the same.
+fn assert_same(
     rt: &impl Abort,
     alloc: Global,
-    text: &str,
-    normal: &str,
+    left: &str,
+    right: &str,
+    same: bool,
 ) -> Result<(), AllocError> {
-    let form = form_of(rt, alloc, text)?;
-    let shown = text_of(alloc, &form)?;
-    assert_eq!(rt; shown.as_str(), normal, "at {text}");
+    let found = form_of(rt, alloc, left)?.same(&form_of(rt, alloc, right)?);
+    assert_eq!(rt; found, same, "at {left} and {right}");
     Ok(())
 }
 
 #[test]
-fn forms_are_normal(rt: HostRuntime) -> Result<(), AllocError> {
-    let rows = [
-        ("0", "0"),
-        ("1", "1"),
-        ("a--", "a"),
-        ("aa-&", "a -a"),
-        ("aa-|", "a + -a"),
-        ("ba&", "a b"),
-        ("ba|", "a + b"),
-        ("aab&|", "a"),
-        ("ab|c&", "a c + b c"),
-        ("ab&-", "-a + -b"),
-        ("ab|-", "-a -b"),
-        ("ab-|a-b|&", "a -a + a b + -a -b + b -b"),
-    ];
-    for (text, normal) in rows {
-        assert_normal(&rt, rt.alloc(), text, normal)?;
+fn same_compares_values(rt: HostRuntime) -> Result<(), AllocError> {
+    for (left, right, same) in [
+        ("aa-&", "0", false),
+        ("aa-|", "1", false),
+        ("a--", "a", true),
+        ("a0|", "a", true),
+        ("a1&", "a", true),
+        ("1-", "0", true),
+        ("ab&", "ba&", true),
+        ("aab&|", "a", true),
+        ("ab|c&", "ac&bc&|", true),
+        ("ab&-", "a-b-|", true),
+        ("ab-|a-b|&", "aa-&ab&|a-b-&|bb-&|", true),
+        ("ab&", "ac&", false),
+        ("ab&", "ab|", false),
+    ] {
+        assert_same(&rt, rt.alloc(), left, right, same)?;
     }
     Ok(())
 }
@@ -109,11 +84,10 @@ fn assert_replaced(
     alloc: Global,
     text: &str,
     end: bool,
-    normal: &str,
+    replaced: &str,
 ) -> Result<(), AllocError> {
     let form = form_of(rt, alloc, text)?.at(u64::from(b'a'), end)?;
-    let shown = text_of(alloc, &form)?;
-    assert_eq!(rt; shown.as_str(), normal, "at {text}");
+    assert!(rt; form.same(&form_of(rt, alloc, replaced)?), "at {text}");
     Ok(())
 }
 
@@ -131,30 +105,22 @@ fn names_are_replaced(rt: HostRuntime) -> Result<(), AllocError> {
     Ok(())
 }
 
-/// Asserts whether the forms of two postfix texts are the same.
-fn assert_same(
-    rt: &impl Abort,
-    alloc: Global,
-    left: &str,
-    right: &str,
-    same: bool,
-) -> Result<(), AllocError> {
-    let left_form = form_of(rt, alloc, left)?;
-    let right_form = form_of(rt, alloc, right)?;
-    assert_eq!(rt; left_form.same(&right_form), same, "at {left} and {right}");
-    Ok(())
+/// The join of so many names from this one on.
+fn some_of(alloc: Global, first: u64, count: u64) -> Result<Form, AllocError> {
+    let mut form = Form::zero(alloc)?;
+    for place in 0..count {
+        form = form.join(&Form::name(alloc, first.wrapping_add(place))?)?;
+    }
+    Ok(form)
 }
 
 #[test]
-fn same_compares_values(rt: HostRuntime) -> Result<(), AllocError> {
-    for (left, right, same) in [
-        ("aa-&", "0", false),
-        ("a--", "a", true),
-        ("ab|c&", "ac&bc&|", true),
-        ("ab&", "ac&", false),
-    ] {
-        assert_same(&rt, rt.alloc(), left, right, same)?;
-    }
+fn many_products(rt: HostRuntime) -> Result<(), AllocError> {
+    let nine = some_of(rt.alloc(), 0, 9)?;
+    assert_eq!(rt; nine.neg()?.products().len(), 1);
+    assert!(rt; nine.neg()?.neg()?.same(&nine));
+    let met = some_of(rt.alloc(), 0, 65)?.meet(&some_of(rt.alloc(), 65, 65)?)?;
+    assert_eq!(rt; met.products().len(), 65 * 65);
     Ok(())
 }
 
@@ -172,6 +138,15 @@ fn all_products_of_twelve_names(rt: HostRuntime) -> Result<(), AllocError> {
         all = all.meet(&either(rt.alloc(), name)?)?;
     }
     assert_eq!(rt; all.products().len(), 4096);
+    let literal = Literal {
+        name: 11,
+        negated: true,
+    };
+    assert!(rt;
+        all.products()
+            .iter()
+            .any(|product| product.contains(literal.negation()))
+    );
     Ok(())
 }
 

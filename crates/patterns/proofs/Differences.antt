@@ -3,9 +3,9 @@ use Rattle.std.proofs.Common.{◌≡◌, ◌≢◌, ℕ, false, ◌==◌, List, 
 use Rattle.std.specs.List.{All}
 use Rattle.std.proofs.lemmas.Bool.{eqb-false}
 use Rattle.std.proofs.lemmas.List.Elements.{All-cons, All-nil}
-use Rattle.theory.specs.Language.{Ty, Sb}
-use Rattle.theory.specs.Trees.{Var, Make, More}
-use Rattle.theory.specs.Judgements.{Judgement}
+use Rattle.trees.specs.Language.{Ty, Sb}
+use Rattle.trees.specs.Trees.{Var, Make, More}
+use Rattle.trees.specs.Judgements.{Judgement}
 use Rattle.patterns.specs.Refusals.{Refusal, Differ, one_index_off}
 
 -- a number in which two judgements of the list differ: an index of the type or of its second kids, or a shift

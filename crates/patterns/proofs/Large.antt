@@ -1,7 +1,7 @@
 -- The test at two judgements of a thousand operators each.
 use Rattle.std.proofs.Common.{◌≡◌, ℕ, zero, suc, ◌+◌, true, [], ◌∷◌, refl}
-use Rattle.theory.specs.declared.op.Op.TheVariants as O
-use Rattle.theory.specs.Language.{Tm}
+use Rattle.trees.specs.declared.op.Op.TheVariants as O
+use Rattle.trees.specs.Language.{Tm}
 use Rattle.substitution.specs.Forms.{at, lift}
 use Rattle.patterns.specs.Patterns.{Pattern, Part, Index, Build, Under, SubstPart, Pushed, Then, ContextPart, patterns, patterns_of}
 use Rattle.patterns.specs.Tests.{same_judgement}

@@ -1,10 +1,10 @@
 -- Filling in the unknown parts keeps weakening, trimming and substitution.
 use Rattle.std.proofs.Common.{◌≡◌, ℕ, zero, suc, ◌+◌, ◌-◌, ◌<◌, ◌≤◌, ◌⊎◌, Bool, true, false, cond, refl, sym, ◌∙◌, ap, ap₂, inl, inr, zero-add, arith}
 use Rattle.std.proofs.Math.Path.{fun_ext}
-use Rattle.theory.specs.declared.op.Op.{Op}
-use Rattle.theory.specs.Operators.{binds_of}
-use Rattle.theory.specs.Trees.{Tree, Var, Make, More, Subst, raise_index, apply, apply_kids, apply_under, shift_by, push, then, up}
-use Rattle.theory.specs.Judgements.{trees}
+use Rattle.trees.specs.declared.op.Op.{Op}
+use Rattle.trees.specs.Operators.{binds_of}
+use Rattle.trees.specs.Trees.{Tree, Var, Make, More, Subst, raise_index, apply, apply_kids, apply_under, shift_by, push, then, up}
+use Rattle.trees.specs.Judgements.{trees}
 use Rattle.substitution.specs.Forms.{drop}
 use Rattle.substitution.specs.Action.{look, ActAlike}
 use Rattle.substitution.proofs.Maps.{rename, rename_kids, lifted, lifted_by, replace, rename-replace, raise_index-add, apply_under-replace}

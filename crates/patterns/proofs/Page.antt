@@ -1,13 +1,13 @@
 -- The examples of docs/SUBSTITUTION.md.
 use Rattle.std.proofs.Common.{◌≡◌, ℕ, ◌^◌, ◌<◌, ◌≤◌, [], ◌∷◌, refl, ◌∙◌, ap, arith}
-use Rattle.theory.specs.declared.op.Op.{Op}
-use Rattle.theory.specs.Operators.{binds_of}
-use Rattle.theory.specs.Trees.{Tree, NoTrees, More, Var, Make, Subst, apply, push, then, id}
-use Rattle.theory.specs.Judgements.{Context, trees}
-use Rattle.theory.specs.Things.{ATree, ASubst, AContext}
+use Rattle.trees.specs.declared.op.Op.{Op}
+use Rattle.trees.specs.Operators.{binds_of}
+use Rattle.trees.specs.Trees.{Tree, NoTrees, More, Var, Make, Subst, apply, push, then, id}
+use Rattle.trees.specs.Judgements.{Context, trees}
+use Rattle.trees.specs.Things.{ATree, ASubst, AContext}
 use Rattle.substitution.specs.Forms.{at, lift}
 use Rattle.substitution.specs.Action.{look}
-use Rattle.substitution.specs.Shifts.{greatest_shift}
+use Rattle.trees.specs.Trees.{greatest_shift}
 use Rattle.substitution.specs.Delayed.{here, closed, deeper}
 use Rattle.substitution.proofs.Maps.{rename, replace, rename-replace}
 use Rattle.substitution.proofs.ThenLaws.{apply-replace, look-then, then-assoc}

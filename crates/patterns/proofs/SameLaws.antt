@@ -2,9 +2,9 @@
 use Rattle.std.proofs.Common.{◌≡◌, ℕ, Bool, true, false, ◌&&◌, ◌==◌, refl, sym, ◌∙◌, ap, ap₂}
 use Rattle.std.proofs.lemmas.Bool.{eqb-true}
 use denote.Enum.Bare.{same_true}
-use Rattle.theory.specs.declared.op.Op.{Op}
-use Rattle.theory.specs.contracts.op.Op.{the_type}
-use Rattle.theory.specs.Language.{Ctx, Ty, TyEq, Tm, TmEq, Sb}
+use Rattle.trees.specs.declared.op.Op.{Op}
+use Rattle.trees.specs.contracts.op.Op.{the_type}
+use Rattle.trees.specs.Language.{Ctx, Ty, TyEq, Tm, TmEq, Sb}
 use Rattle.patterns.specs.Patterns.{ContextPart, Empty, AddVar, AddName, AddFace}
 use Rattle.patterns.specs.Normals.{Normal, Normals, NormalSubst, NormalContext, NVar, NMake, NPart, NEntry, NoNormals, MoreNormals, NShift, NPush, NRest, same_op, same_normal, same_normals, same_normal_subst, is_var, is_entry}
 use Rattle.patterns.specs.Tests.{NormalJudgement, same_normal_context, same_normal_judgement}

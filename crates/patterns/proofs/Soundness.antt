@@ -1,8 +1,8 @@
 -- Patterns whose normal forms are equal mean the same at all parts.
 use Rattle.std.proofs.Common.{◌≡◌, true, List, [], ◌∷◌, map, refl, sym, ◌∙◌, ap, ap₂}
-use Rattle.theory.specs.Language.{Ctx, Ty, TyEq, Tm, TmEq, Sb}
-use Rattle.theory.specs.Trees.{Make, More, trees_of, apply, push, then, id}
-use Rattle.theory.specs.Judgements.{WithVar, WithName, WithFace, trees}
+use Rattle.trees.specs.Language.{Ctx, Ty, TyEq, Tm, TmEq, Sb}
+use Rattle.trees.specs.Trees.{Make, More, trees_of, apply, push, then, id}
+use Rattle.trees.specs.Judgements.{WithVar, WithName, WithFace, trees}
 use Rattle.substitution.proofs.ThenLaws.{apply-id, then-id, id-then}
 use Rattle.patterns.specs.Patterns.{Pattern, Part, Index, Build, Under, Patterns, NoPatterns, MorePatterns, SubstPattern, SubstPart, ShiftBy, Pushed, Then, ContextPattern, ContextPart, Empty, AddVar, AddName, AddFace, JudgementPattern}
 use Rattle.patterns.specs.Values.{Parts, tree_of, kid_trees_of, subst_of, context_of, judged_of, judgement_of}

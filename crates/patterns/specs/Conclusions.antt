@@ -1,7 +1,7 @@
 -- What some rules conclude, in every language, for the examples of this crate.
 use Rattle.std.specs.Prelude.{[], ◌∷◌}
-use Rattle.theory.specs.declared.op.Op.TheVariants as O
-use Rattle.theory.specs.Language.{Language, Ctx, Ty, TyEq, Tm, TmEq, Sb, JudgementOf}
+use Rattle.trees.specs.declared.op.Op.TheVariants as O
+use Rattle.trees.specs.Language.{Language, Ctx, Ty, TyEq, Tm, TmEq, Sb, JudgementOf}
 use Rattle.substitution.specs.Forms.{at, weaken}
 
 module _ (L : Language) where

@@ -1,7 +1,7 @@
 -- Pairs of patterns that mean the same at all parts, and that the test finds the same.
 use Rattle.std.specs.Prelude.{◌≡◌, ℕ, Bool, List, [], ◌∷◌, ◌++◌, codes}
-use Rattle.theory.specs.Language.{Ty, Sb}
-use Rattle.theory.specs.Judgements.{trees}
+use Rattle.trees.specs.Language.{Ty, Sb}
+use Rattle.trees.specs.Judgements.{trees}
 use Rattle.substitution.specs.Forms.{at, weaken, lift}
 use Rattle.patterns.specs.Patterns.{Pattern, Part, Index, Under, SubstPattern, SubstPart, ShiftBy, Pushed, Then, ContextPattern, ContextPart, AddVar, AddName, JudgementPattern, patterns}
 use Rattle.patterns.specs.Values.{Parts, judgement_of}

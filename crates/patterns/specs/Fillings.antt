@@ -1,8 +1,8 @@
 -- What a normal term with unknown parts means at given parts.
 use Rattle.std.specs.Prelude.{◌≡◌, ℕ}
-use Rattle.theory.specs.Language.{Ctx, Ty, TyEq, Tm, TmEq, Sb}
-use Rattle.theory.specs.Trees.{Tree, Trees, Var, Make, NoTrees, More, Subst, apply, shift_by, push, then}
-use Rattle.theory.specs.Judgements.{Context, Nil, WithVar, WithName, WithFace, trees, Judgement}
+use Rattle.trees.specs.Language.{Ctx, Ty, TyEq, Tm, TmEq, Sb}
+use Rattle.trees.specs.Trees.{Tree, Trees, Var, Make, NoTrees, More, Subst, apply, shift_by, push, then}
+use Rattle.trees.specs.Judgements.{Context, Nil, WithVar, WithName, WithFace, trees, Judgement}
 use Rattle.substitution.specs.Forms.{drop}
 use Rattle.substitution.specs.Action.{look}
 use Rattle.patterns.specs.Patterns.{ContextPart, Empty, AddVar, AddName, AddFace}

@@ -1,11 +1,11 @@
 -- Normal terms with unknown parts, each under a normal substitution; how they are substituted.
 use Rattle.std.specs.Prelude.{ℕ, zero, suc, ◌+◌, ◌-◌, List, [], ◌∷◌, Bool, true, false, ◌&&◌, ◌==◌, if◌then◌else◌}
 use denote.Enum.Bare.{sameb}
-use Rattle.theory.specs.declared.op.Op.{Op}
-use Rattle.theory.specs.contracts.op.Op.{the_type}
-use Rattle.theory.specs.Operators.{binds_of}
-use Rattle.theory.specs.Trees.{raise_index}
-use Rattle.theory.specs.Language.{Language}
+use Rattle.trees.specs.declared.op.Op.{Op}
+use Rattle.trees.specs.contracts.op.Op.{the_type}
+use Rattle.trees.specs.Operators.{binds_of}
+use Rattle.trees.specs.Trees.{raise_index}
+use Rattle.trees.specs.Language.{Language}
 use Rattle.patterns.specs.Patterns.{ContextOver, ContextPart, Empty, AddVar, AddName, AddFace}
 use Rattle.patterns.specs.Values.{Parts}
 

@@ -1,7 +1,7 @@
 -- Trees, substitutions, contexts and judgements with numbered parts that are not known.
 use Rattle.std.specs.Prelude.{ℕ, List, [], ◌∷◌}
-use Rattle.theory.specs.declared.op.Op.{Op}
-use Rattle.theory.specs.Language.{Language, Judged, Tested}
+use Rattle.trees.specs.declared.op.Op.{Op}
+use Rattle.trees.specs.Language.{Language, Judged, Tested}
 
 mutual
   pub data Pattern : Type 0 where

@@ -1,9 +1,9 @@
 -- Pairs of patterns that differ by one index, that the test does not find the same, and that mean different things at
 -- the parts that stand beside them.
 use Rattle.std.specs.Prelude.{◌≢◌, ℕ, Bool, not, List, [], ◌∷◌, codes}
-use Rattle.theory.specs.Language.{Ty, Sb}
-use Rattle.theory.specs.Trees.{Tree, Var, id}
-use Rattle.theory.specs.Things.{Thing, ATree, ASubst}
+use Rattle.trees.specs.Language.{Ty, Sb}
+use Rattle.trees.specs.Trees.{Tree, Var, id}
+use Rattle.trees.specs.Things.{Thing, ATree, ASubst}
 use Rattle.patterns.specs.Patterns.{Pattern, Part, Index, Under, SubstPattern, SubstPart, ShiftBy, Pushed, Then, Empty, JudgementPattern, patterns}
 use Rattle.patterns.specs.Values.{parts_of, judgement_of}
 use Rattle.patterns.specs.Tests.{same_judgement}

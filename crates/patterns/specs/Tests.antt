@@ -1,6 +1,6 @@
 -- Whether two patterns mean the same whatever their parts are: whether their normal terms are equal.
 use Rattle.std.specs.Prelude.{List, [], ◌∷◌, Bool, true, false, ◌&&◌, ◌==◌}
-use Rattle.theory.specs.Language.{Judged, Ctx, Ty, TyEq, Tm, TmEq, Sb}
+use Rattle.trees.specs.Language.{Judged, Ctx, Ty, TyEq, Tm, TmEq, Sb}
 use Rattle.patterns.specs.Patterns.{Pattern, SubstPattern, ContextPattern, JudgementPattern, ContextPart, Empty, AddVar, AddName, AddFace}
 use Rattle.patterns.specs.Values.{tree_of, subst_of, context_of, judged_of}
 use Rattle.patterns.specs.Normals.{Normal, NormalSubst, NormalContext, normals, unknown, same_normal, same_normal_subst}

@@ -7,8 +7,8 @@
 
 ghost use Rattle.std.specs.Prelude.{◌≡◌, ℕ, true, length, map, List};
 ghost use Rattle.std.specs.List.{All, list_all};
-ghost use Rattle.theory.specs.Trees.{Tree, apply, then};
-ghost use Rattle.theory.specs.Judgements.{trees};
+ghost use Rattle.trees.specs.Trees.{Tree, apply, then};
+ghost use Rattle.trees.specs.Judgements.{trees};
 ghost use Rattle.substitution.specs.Action.{ActAlike};
 ghost use Rattle.patterns.specs.Patterns.{Pattern, SubstPattern, ContextPattern, JudgementPattern};
 ghost use Rattle.patterns.specs.Values.{Parts, tree_of, subst_of, context_of, judged_of, judgement_of};

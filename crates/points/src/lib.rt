@@ -37,7 +37,8 @@ pub fn laws_of_valuations()
 
 /// A point with a name made free or put at an end, the valuation that a point is, and the valuations over it.
 pub fn laws_of_points()
-    ensures free_at_the_name { (name : ℕ) (x : Point) → coordinate_at (with_free name x) name ≡ Free }
+    ensures free_at_the_name { (name : ℕ) (x : Point) →
+        coordinate_at (with_free name x) name ≡ Free }
     ensures as_before_at_another { (name : ℕ) (x : Point) (other : ℕ) →
         other ≢ name → coordinate_at (with_free name x) other ≡ coordinate_at x other }
     ensures at_its_end { (name : ℕ) (end : Bool) (x : Point) →
@@ -51,7 +52,8 @@ pub fn laws_of_points()
 
     // At its ends a point fixes the values over it; at a free name it leaves them open.
     ensures fixed_at_ends { (x : Point) (v w : Valuation) (name : ℕ) →
-        LiesOver x v → LiesOver x w → coordinate_at x name ≢ Free → value_at v name ≡ value_at w name }
+        LiesOver x v → LiesOver x w → coordinate_at x name ≢ Free
+        → value_at v name ≡ value_at w name }
     ensures open_at_free { (x : Point) (v : Valuation) (name : ℕ) (w : Value) →
         LiesOver x v → LiesOver (with_free name x) (with_value name w v) }
 {}

@@ -21,7 +21,7 @@ pub refuted : (b : Bool) (X : Type 0) → (X → IsTrue b) → b ≡ false → I
 refuted true X f e = cc
 refuted false X f e = (λ h. absurd (never h), f)
 
--- where there is want of memory
+-- out of memory
 pub on_err : {T E P : Type 0} (r : Result T E) → P → OnErr r P
 on_err (Ok x) p = tt
 on_err (Err e) p = p

@@ -1,36 +1,36 @@
 -- Files whose first rows are right.
-use Rattle.std.proofs.Common.{◌≡◌, ℕ, zero, suc, ◌+◌, ◌<◌, ◌≤◌, List, [], ◌∷◌, ◌++◌, length, take, refl, sym, ◌∙◌, ap, subst, arith, append_assoc, length-append, Some}
+use Rattle.std.proofs.Common.{◌≡◌, ℕ, zero, suc, ◌+◌, ◌<◌, ◌≤◌, List, [], ◌∷◌, ◌++◌, length, take, refl, sym, ◌∙◌, ap, ap₂, cond, subst, arith, append_assoc, length-append, Some}
 use Rattle.std.specs.Option.{option_to_list}
 use Rattle.std.specs.Io.BufRead.{drop_through}
 use Rattle.std.proofs.lemmas.List.{take-append-le, append-nil}
+use Rattle.std.proofs.lemmas.List.Sums.{count_by-le-length, sum_by-cons, sum_by-append}
 use Rattle.std.proofs.Math.Seq.{take-append-add, take-length}
-use Rattle.theory.specs.Judgements.{Judgement}
-use Rattle.theory.specs.Things.{one}
+use Rattle.trees.specs.Judgements.{Judgement}
 use Rattle.deriv_file.specs.declared.row.Row.{Row}
-use Rattle.deriv_file.specs.declared.row.Row.TheVariants.{Header, Make, CtxNil, Node, Root}
+use Rattle.deriv_file.specs.declared.row.Row.TheVariants.{Root}
 use Rattle.deriv_file.specs.Spelling.{newest, MayStand, Spells}
 use Rattle.deriv_file.specs.Lines.{lines, SpellRows}
 use Rattle.deriv_file.specs.Reading.{Reading}
 use Rattle.deriv_file.specs.Reader.{start, past, line_of, NextIs}
 use Rattle.deriv_file.specs.declared.reader.Next.TheVariants as next
-use Rattle.deriv_file.proofs.LineLemmas.{length-drop_through-lt}
-use Rattle.deriv_file.proofs.ReadLemmas.{HasRead, read_none, read_row, read_all, read_next, cut_line}
-use Rattle.deriv_file.proofs.RowsLemmas.{spell_length}
-use Rattle.deriv_file.proofs.SpellingLemmas.{spells_one}
+use Rattle.deriv_file.proofs.LineLaws.{length-drop_through-lt}
+use Rattle.deriv_file.proofs.ReadLaws.{HasRead, read_none, read_row, read_all, read_next, cut_line}
+use Rattle.deriv_file.proofs.RowsLaws.{spell_length}
+use Rattle.deriv_file.proofs.SpellingLaws.{spells_one}
 use Rattle.replay.specs.declared.judging.Verdict.{Verdict}
 use Rattle.replay.specs.declared.judging.Verdict.TheVariants.{Yes, No}
 use Rattle.replay.specs.Verdicts.{VerdictIs}
-use Rattle.replay.specs.Meant.{count_roots}
+use Rattle.replay.specs.Meant.{is_root, count_roots}
 use Rattle.derivation.specs.Meanings.{Meaning, conclusion_at}
-use Rattle.derivation.proofs.Unique.{rows_one}
-use Rattle.derivation.proofs.Fronts.{rows_parts, rows_whole, begins_take}
+use Rattle.derivation.proofs.UniqueLaws.{rows_one}
+use Rattle.derivation.proofs.PrefixLaws.{rows_parts, rows_whole, begins_take}
 use Rattle.derivation.specs.Right.{RightRow, RightRows, Begins, AllRight, FirstBad, Derives, root_of, roots_of}
 
 right_push : (before : List Meaning) (rows : List Row) (all : List Meaning) (row : Row) (m : Meaning) → RightRows before rows all → RightRow all row m → RightRows before (rows ++ row ∷ []) (all ++ m ∷ [])
 right_push before rows all row m right next = rows_whole before rows (row ∷ []) all (all ++ m ∷ []) right (m, next, refl)
 
 -- the last of some rows that are right
-right_last : (before : List Meaning) (rows : List Row) (row : Row) (all : List Meaning) → RightRows before (rows ++ row ∷ []) all → (front : List Meaning) × (m : Meaning) × RightRows before rows front × RightRow front row m
+right_last : (before : List Meaning) (rows : List Row) (row : Row) (all : List Meaning) → RightRows before (rows ++ row ∷ []) all → (first : List Meaning) × (m : Meaning) × RightRows before rows first × RightRow first row m
 right_last before rows row all right =
     let parts = rows_parts before rows (row ∷ []) all right in
     (parts.0, parts.2.0, parts.1, parts.2.1)
@@ -53,45 +53,36 @@ place_kept (m ∷ before) more zero J e = e
 place_kept (m ∷ before) more (suc k) J e = place_kept before more k J e
 
 module _ (before : List Meaning) (row : Row) (m : Meaning) (rows : List Row) (all : List Meaning) (right : RightRows (before ++ m ∷ []) rows all) where
-  -- what stands in front of right rows stays there
+  -- what stands before right rows stays there
   conclusion_kept : (k : ℕ) (J : Judgement) → conclusion_at before k ≡ Some J → conclusion_at all k ≡ Some J
   conclusion_kept k J e =
       let x = extends (before ++ m ∷ []) rows all right in
       rw (x.1 ∙ append_assoc before (m ∷ []) x.0) (place_kept before (m ∷ x.0) k J e)
 
-root_count : (before : List Meaning) (row : Row) (m : Meaning) (rows : List Row) (all : List Meaning) → RightRow before row m → RightRows (before ++ m ∷ []) rows all → length (root_of all row) + count_roots rows ≡ count_roots (row ∷ rows)
-root_count before (Header version) m rows all r right = omega arith
-root_count before (Make op kids) m rows all r right = omega arith
-root_count before CtxNil m rows all r right = omega arith
-root_count before (Node rule parts premises) m rows all r right = omega arith
+-- one more root, or none
+abbrev root_weight : Row → ℕ
+root_weight row = cond (is_root row) 1 0
+
+root_count : (before : List Meaning) (row : Row) (m : Meaning) (rows : List Row) (all : List Meaning) → RightRow before row m → RightRows (before ++ m ∷ []) rows all → length (root_of all row) ≡ root_weight row
 root_count [] (Root node) m rows all r right = absurd r
 root_count (b ∷ before) (Root node) m rows all r right =
-    ap (λ o. length (option_to_list o) + count_roots rows) (conclusion_kept (b ∷ before) (Root node) m rows all right node r.0 r.1)
+    ap (λ o. length (option_to_list o)) (conclusion_kept (b ∷ before) (Root node) m rows all right node r.0 r.1)
+root_count before row m rows all r right = refl
 
 pub roots_count : (before : List Meaning) (rows : List Row) (all : List Meaning) → RightRows before rows all → length (roots_of all rows) ≡ count_roots rows
 roots_count before [] all right = refl
 roots_count before (row ∷ rows) all right =
     let more = roots_count (before ++ right.0 ∷ []) rows all right.2 in
     let here = root_count before row right.0 rows all right.1 right.2 in
-    length-append (root_of all row) (roots_of all rows) ∙ ap (λ n. length (root_of all row) + n) more ∙ here
+    length-append (root_of all row) (roots_of all rows) ∙ ap₂ (λ n k. n + k) here more ∙ sym (sum_by-cons root_weight row rows)
 
 count_push : (rows : List Row) (row : Row) → count_roots (rows ++ row ∷ []) ≡ count_roots rows + count_roots (row ∷ [])
-count_push [] row = omega arith
-count_push (Root node ∷ rows) row = omega (arith, count_push rows row)
-count_push (Header version ∷ rows) row = count_push rows row
-count_push (Make op kids ∷ rows) row = count_push rows row
-count_push (CtxNil ∷ rows) row = count_push rows row
-count_push (Node rule parts premises ∷ rows) row = count_push rows row
+count_push rows row = sum_by-append root_weight rows (row ∷ [])
 
 count_le : (rows : List Row) → count_roots rows ≤ length rows
-count_le [] = omega arith
-count_le (Root node ∷ rows) = omega (arith, count_le rows)
-count_le (Header version ∷ rows) = omega (arith, count_le rows)
-count_le (Make op kids ∷ rows) = omega (arith, count_le rows)
-count_le (CtxNil ∷ rows) = omega (arith, count_le rows)
-count_le (Node rule parts premises ∷ rows) = omega (arith, count_le rows)
+count_le rows = count_by-le-length is_root rows
 
--- The lines in front of a reader spell rows that are right and mean that, and so many of them are roots.
+-- The lines before a reader spell rows that are right and mean that, and so many of them are roots.
 pub record Progress (bytes : List ℕ) (reading : Reading) (all : List Meaning) (roots : ℕ) : Type 0 where
   pub rows : List Row
   pub read : HasRead bytes reading rows
@@ -142,8 +133,8 @@ bad_next bytes reading all roots p some none =
       bad = λ right.
           let next = read_next bytes reading p.rows right.0 p.read (subst (λ ls. SpellRows newest 0 ls right.0) here right.2.spelt) in
           let last = right_last [] p.rows next.0 right.1 (subst (λ rs. RightRows [] rs right.1) next.1 right.2.right) in
-          let front : last.0 ≡ all = rows_one [] p.rows last.0 all last.2 p.right in
-          none next.0 last.1 next.2 (subst (λ ms. RightRow ms next.0 last.1) front last.3);
+          let first : last.0 ≡ all = rows_one [] p.rows last.0 all last.2 p.right in
+          none next.0 last.1 next.2 (subst (λ ms. RightRow ms next.0 last.1) first last.3);
     }
 
 pub bad_spelling : (bytes : List ℕ) (reading : Reading) (all : List Meaning) (roots : ℕ) → Progress bytes reading all roots → 0 < length reading.rest → ((row : Row) → Spells reading.version reading.at (line_of reading) row → ⊥) → FirstBad bytes reading.at
@@ -187,8 +178,8 @@ next_stands bytes old new all roots row p is =
     let n = (count_is bytes old all roots p).0 in
     (old.version, subst (λ k. MayStand old.version k row) n is.1.1)
 
-pub next_right : (bytes : List ℕ) (old new : Reading) (all more : List Meaning) (roots one : ℕ) (row : Row) → Progress bytes old all roots → NextIs old new (next.Row row) → ((m : Meaning) × RightRow all row m × (more ≡ all ++ m ∷ [])) → one ≡ count_roots (row ∷ []) → Progress bytes new more (roots + one)
-next_right bytes old new all more roots one row p is right count =
+pub next_right : (bytes : List ℕ) (old new : Reading) (all more : List Meaning) (roots found : ℕ) (row : Row) → Progress bytes old all roots → NextIs old new (next.Row row) → ((m : Meaning) × RightRow all row m × (more ≡ all ++ m ∷ [])) → found ≡ count_roots (row ∷ []) → Progress bytes new more (roots + found)
+next_right bytes old new all more roots found row p is right count =
     rw (is.2, right.2, count) (progress bytes old all roots row right.0 p is.0 is.1 right.1)
 
 pub next_shorter : (old new : Reading) (row : Row) → NextIs old new (next.Row row) → length new.rest < length old.rest

@@ -1,9 +1,10 @@
 pub mod Equality
 mod EachLaws
-pub mod StoreLaws
 pub mod FiledLaws
-mod PlaceLaws
+mod HeldLaws
 pub mod NamedLaws
+pub mod ThingLaws
 pub mod NodeLaws
 pub mod RowLaws
+pub mod ShiftLaws
 pub mod FileLaws

@@ -1,21 +1,21 @@
 -- What is known of the premises of a node, place by place.
 use Rattle.std.proofs.Common.{◌≡◌, ℕ, zero, suc, ◌+◌, ◌<◌, ◌≤◌, List, [], ◌∷◌, length, take, get_or, refl, sym, ◌∙◌, ap, arith, Option, Some, None, IsSome, IsTrue, Bool, false, ◌↔◌}
-use Rattle.std.specs.Prelude.{slice_get}
+use Rattle.std.specs.Prelude.{slice_get, option_and_then}
 use Rattle.std.specs.List.{All}
 use Rattle.theory.specs.declared.rule.RuleName.{RuleName}
-use Rattle.theory.specs.Judgements.{Judgement, SideCondition, TreeRule}
+use Rattle.trees.specs.Judgements.{Judgement, SideCondition, TreeRule}
 use Rattle.theory.specs.RuleNames.{kinds_of, premises_of}
-use Rattle.theory.specs.Things.{Thing, one, meanings}
+use Rattle.trees.specs.Things.{Thing, meanings}
 use Rattle.rules.specs.Rules.{rule_at}
 use Rattle.rules.specs.Sides.{SideHolds}
 use Rattle.rules.specs.Claims.{rule_over, premise_at, conclusion_of as conclusion_of_rule}
 use Rattle.rules.proofs.TableLaws.{wants-count, no_sides, some_rule, rule_kinds}
-use Rattle.derivation.specs.Meanings.{Meaning, things, conclusions}
+use Rattle.derivation.specs.Meanings.{Meaning, things_at, conclusions_at}
 use Rattle.derivation.specs.Right.{RightNode}
-use Rattle.replay.specs.declared.entry.Entry.{Entry}
-use Rattle.replay.specs.Filed.{filed, wants_of}
+use Rattle.replay.specs.declared.filed.Filed.{Filed}
+use Rattle.replay.specs.Filed.{file_meanings, wants_of}
 use Rattle.replay.specs.Named.{Names, NamesNone}
-use Rattle.theory.proofs.Meanings.{meanings-more, meanings-all, meanings-place}
+use Rattle.trees.proofs.Meanings.{meanings-more, meanings-all, meanings-place}
 
 -- the rule that stands at parts
 
@@ -57,29 +57,29 @@ pub iff_along : (b : Bool) (x y c p : Option Judgement) → IsTrue b ↔ (x ≡ 
 iff_along b x y c p h ec ep = (λ t. ec ∙ sym (h.0 t) ∙ sym ep, λ e. h.1 (sym ep ∙ sym e ∙ ec))
 
 -- the first of the premises that a rule wants
-abbrev pub wants_front : ℕ → Option TreeRule → Option (List Judgement)
-wants_front n = one (λ r. Some (take n r.wants))
+abbrev pub wants_first : ℕ → Option TreeRule → Option (List Judgement)
+wants_first n = option_and_then (λ r. Some (take n r.wants))
 
 -- so many premises hold
-pub record FrontHolds (f : ℕ → Option Judgement) (ps : List ℕ) (rule : Option TreeRule) (n : ℕ) : Type 0 where
-  pub front : meanings f (take n ps) ≡ wants_front n rule
+pub record FirstHold (f : ℕ → Option Judgement) (ps : List ℕ) (rule : Option TreeRule) (n : ℕ) : Type 0 where
+  pub first : meanings f (take n ps) ≡ wants_first n rule
 
-pub none_holds : (f : ℕ → Option Judgement) (ps : List ℕ) (name : RuleName) (parts : Option (List Thing)) → IsSome (rule_over name parts) → FrontHolds f ps (rule_over name parts) 0
-none_holds f ps name parts some = let t = rule_there name parts some in record { front = rw t.is refl }
+pub none_holds : (f : ℕ → Option Judgement) (ps : List ℕ) (name : RuleName) (parts : Option (List Thing)) → IsSome (rule_over name parts) → FirstHold f ps (rule_over name parts) 0
+none_holds f ps name parts some = let t = rule_there name parts some in record { first = rw t.is refl }
 
-pub one_holds : (f : ℕ → Option Judgement) (ps : List ℕ) (name : RuleName) (parts : Option (List Thing)) (i : ℕ) → IsSome (rule_over name parts) → length ps ≡ premises_of name → i < length ps → FrontHolds f ps (rule_over name parts) i → f (get_or ps i 0) ≡ premise_at i (rule_over name parts) → FrontHolds f ps (rule_over name parts) (i + 1)
+pub one_holds : (f : ℕ → Option Judgement) (ps : List ℕ) (name : RuleName) (parts : Option (List Thing)) (i : ℕ) → IsSome (rule_over name parts) → length ps ≡ premises_of name → i < length ps → FirstHold f ps (rule_over name parts) i → f (get_or ps i 0) ≡ premise_at i (rule_over name parts) → FirstHold f ps (rule_over name parts) (i + 1)
 one_holds f ps name parts i some n lt h e =
     let t = rule_there name parts some in
     let count : length ps ≡ length t.rule.wants = n ∙ sym t.count in
-    let front : meanings f (take i ps) ≡ Some (take i t.rule.wants) = h.front ∙ ap (wants_front i) t.is in
+    let first : meanings f (take i ps) ≡ Some (take i t.rule.wants) = h.first ∙ ap (wants_first i) t.is in
     let here : f (get_or ps i 0) ≡ slice_get t.rule.wants i = e ∙ ap (premise_at i) t.is in
-    record { front = meanings-more f ps t.rule.wants i lt count front here ∙ sym (ap (wants_front (i + 1)) t.is) }
+    record { first = meanings-more f ps t.rule.wants i lt count first here ∙ sym (ap (wants_first (i + 1)) t.is) }
 
-pub all_hold : (f : ℕ → Option Judgement) (ps : List ℕ) (name : RuleName) (parts : Option (List Thing)) (i : ℕ) → IsSome (rule_over name parts) → length ps ≡ premises_of name → length ps ≤ i → FrontHolds f ps (rule_over name parts) i → meanings f ps ≡ wants_of (rule_over name parts)
+pub all_hold : (f : ℕ → Option Judgement) (ps : List ℕ) (name : RuleName) (parts : Option (List Thing)) (i : ℕ) → IsSome (rule_over name parts) → length ps ≡ premises_of name → length ps ≤ i → FirstHold f ps (rule_over name parts) i → meanings f ps ≡ wants_of (rule_over name parts)
 all_hold f ps name parts i some n le h =
     let t = rule_there name parts some in
     let count : length ps ≡ length t.rule.wants = n ∙ sym t.count in
-    meanings-all f ps t.rule.wants i le count (h.front ∙ ap (wants_front i) t.is) ∙ sym (ap wants_of t.is)
+    meanings-all f ps t.rule.wants i le count (h.first ∙ ap (wants_first i) t.is) ∙ sym (ap wants_of t.is)
 
 pub must_hold : (f : ℕ → Option Judgement) (ps : List ℕ) (name : RuleName) (parts : Option (List Thing)) (i : ℕ) → IsSome (rule_over name parts) → i < length ps → meanings f ps ≡ wants_of (rule_over name parts) → f (get_or ps i 0) ≡ premise_at i (rule_over name parts)
 must_hold f ps name parts i some lt e =
@@ -91,7 +91,7 @@ must_hold f ps name parts i some lt e =
 no_side : (sides : List SideCondition) → sides ≡ [] → All SideHolds sides
 no_side sides e = rw e (λ k d lt. absurd (omega arith))
 
-pub right_node : (before : List Meaning) (name : RuleName) (parts premises : List ℕ) (P : Option (List Thing)) → things before parts ≡ P → IsSome (rule_over name P) → conclusions before premises ≡ wants_of (rule_over name P) → (J : Judgement) × RightNode before name parts premises J × (conclusion_of_rule (rule_over name P) ≡ Some J)
+pub right_node : (before : List Meaning) (name : RuleName) (parts premises : List ℕ) (P : Option (List Thing)) → things_at before parts ≡ P → IsSome (rule_over name P) → conclusions_at before premises ≡ wants_of (rule_over name P) → (J : Judgement) × RightNode before name parts premises J × (conclusion_of_rule (rule_over name P) ≡ Some J)
 right_node before name parts premises P eP some hold =
     let t = rule_there name P some in (
       t.rule.gives,
@@ -105,13 +105,13 @@ right_node before name parts premises P eP some hold =
       ap conclusion_of_rule t.is,
     )
 
-pub wrong_parts : (xs : List Thing) (es : List Entry) (name : RuleName) (parts premises : List ℕ) → NamesNone xs es parts (kinds_of name) → (J : Judgement) → RightNode (filed xs es) name parts premises J → ⊥
+pub wrong_parts : (xs : List Thing) (es : List Filed) (name : RuleName) (parts premises : List ℕ) → NamesNone xs es parts (kinds_of name) → (J : Judgement) → RightNode (file_meanings xs es) name parts premises J → ⊥
 wrong_parts xs es name parts premises wrong J r = wrong r.xs r.parts_are (rule_kinds name r.xs (rw r.instance.is refl))
 
-pub some_parts : (xs : List Thing) (es : List Entry) (name : RuleName) (parts rows : List ℕ) → Names xs es parts (kinds_of name) rows → (things (filed xs es) parts ≡ meanings (slice_get xs) rows) × IsSome (rule_over name (meanings (slice_get xs) rows))
+pub some_parts : (xs : List Thing) (es : List Filed) (name : RuleName) (parts rows : List ℕ) → Names xs es parts (kinds_of name) rows → (things_at (file_meanings xs es) parts ≡ meanings (slice_get xs) rows) × IsSome (rule_over name (meanings (slice_get xs) rows))
 some_parts xs es name parts rows n = (n.numbers_mean ∙ sym n.rows_mean, rw n.rows_mean (some_rule name n.named n.kinds_are))
 
-pub wrong_premises : (before : List Meaning) (name : RuleName) (parts premises : List ℕ) (P : Option (List Thing)) → things before parts ≡ P → (conclusions before premises ≡ wants_of (rule_over name P) → ⊥) → (J : Judgement) → RightNode before name parts premises J → ⊥
+pub wrong_premises : (before : List Meaning) (name : RuleName) (parts premises : List ℕ) (P : Option (List Thing)) → things_at before parts ≡ P → (conclusions_at before premises ≡ wants_of (rule_over name P) → ⊥) → (J : Judgement) → RightNode before name parts premises J → ⊥
 wrong_premises before name parts premises P eP wrong J r =
     let p : P ≡ Some r.xs = sym eP ∙ r.parts_are in
     let is : rule_over name P ≡ Some r.instance.rule = ap (rule_over name) p ∙ r.instance.is in

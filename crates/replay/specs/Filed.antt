@@ -1,33 +1,43 @@
--- What the rows of a file mean that were read so far, over a store.
-use Rattle.std.specs.Prelude.{◌≡◌, List, true, Option, Some, None, is_some, unwrap_or, slice_get, map}
+-- What the rows of a file mean that were read so far, over the rows of a store.
+use Rattle.std.specs.Prelude.{◌≡◌, ◌≤◌, ℕ, List, true, Option, Some, None, IsSome, is_some, unwrap_or, slice_get, map, option_and_then}
 use Rattle.std.specs.List.{list_all}
-use Rattle.theory.specs.Judgements.{Judgement, TreeRule}
-use Rattle.theory.specs.Things.{Thing, one}
-use Rattle.rules.specs.Claims.{claimed}
-use Rattle.derivation.specs.Meanings.{Meaning, Means, Concludes, Nothing}
+use Rattle.trees.specs.Judgements.{Judgement, TreeRule}
+use Rattle.trees.specs.Trees.{Subst, greatest_shift}
+use Rattle.trees.specs.Things.{Thing, ASubst}
+use Rattle.trees.specs.Claimed.{claimed}
+use Rattle.derivation.specs.Meanings.{Meaning, Means, Concludes, Nothing, thing_at}
 use Rattle.deriv_file.specs.declared.row.Row.{Row}
 use Rattle.derivation.specs.Right.{RightRow}
-use Rattle.replay.specs.declared.entry.Entry.{Entry}
-use Rattle.replay.specs.declared.entry.Entry.TheVariants as entry
+use Rattle.replay.specs.declared.filed.Filed.{Filed}
+use Rattle.replay.specs.declared.filed.Filed.TheVariants as filed
 
--- what an entry means, where its rows are in the store and of the right kinds
-abbrev pub entry_meaning : List Thing → Entry → Option Meaning
-entry_meaning xs (entry.Thing at) = one (λ x. Some (Means x)) (slice_get xs at)
-entry_meaning xs (entry.Node claim) = one (λ J. Some (Concludes J)) (claimed (slice_get xs) claim)
-entry_meaning xs entry.Nothing = Some Nothing
+-- what a row of the file means, where its rows are in the store and of the right kinds
+abbrev pub filed_meaning : List Thing → Filed → Option Meaning
+filed_meaning xs (filed.Thing at) = option_and_then (λ x. Some (Means x)) (slice_get xs at)
+filed_meaning xs (filed.Node claim) = option_and_then (λ J. Some (Concludes J)) (claimed (slice_get xs) claim)
+filed_meaning xs filed.Nothing = Some Nothing
 
-abbrev pub filed : List Thing → List Entry → List Meaning
-filed xs entries = map (λ e. unwrap_or (entry_meaning xs e) Nothing) entries
+abbrev pub file_meanings : List Thing → List Filed → List Meaning
+file_meanings xs rows = map (λ r. unwrap_or (filed_meaning xs r) Nothing) rows
 
--- every entry means something
-abbrev pub AllFiled : List Thing → List Entry → Type 0
-AllFiled xs entries = list_all (λ e. is_some (entry_meaning xs e)) entries ≡ true
+-- every row means something
+abbrev pub AllFiled : List Thing → List Filed → Type 0
+AllFiled xs rows = list_all (λ r. is_some (filed_meaning xs r)) rows ≡ true
+
+-- the shift of each substitution among the rows is one that files may have
+pub record AllFit (before : List Meaning) : Type 0 where
+  pub fits : (k : ℕ) (d : Subst) → thing_at before k ≡ Some (ASubst d) → d.shift ≤ greatest_shift
 
 -- the premises that a rule wants
 abbrev pub wants_of : Option TreeRule → Option (List Judgement)
-wants_of = one (λ r. Some r.wants)
+wants_of = option_and_then (λ r. Some r.wants)
 
--- the entry of a row behind rows with these meanings, if the row is right
-abbrev pub EntryIs : List Meaning → List Thing → Row → Option Entry → Type 0
-EntryIs before xs row None = (m : Meaning) → RightRow before row m → ⊥
-EntryIs before xs row (Some e) = (m : Meaning) × RightRow before row m × (entry_meaning xs e ≡ Some m)
+-- what is kept of a row after rows with these meanings, if the row is right
+abbrev pub FiledIs : List Meaning → List Thing → Row → Option Filed → Type 0
+FiledIs before xs row None = (m : Meaning) → RightRow before row m → ⊥
+FiledIs before xs row (Some r) = (m : Meaning) × RightRow before row m × (filed_meaning xs r ≡ Some m)
+
+-- the row of the store that is a thing, if there is one
+abbrev pub MadeAs : Option Thing → List Thing → Option ℕ → Type 0
+MadeAs x xs None = x ≡ None
+MadeAs x xs (Some at) = IsSome x × (slice_get xs at ≡ x)

@@ -1,7 +1,6 @@
-pub mod Stores
-pub mod Shown
-pub mod Places
+pub mod Held
 pub mod Filed
 pub mod Named
+pub mod Premises
 pub mod Meant
 pub mod Verdicts

@@ -1,6 +1,6 @@
 -- What a verdict says of a file.
 use Rattle.std.specs.Prelude.{◌≡◌, ℕ, List, length}
-use Rattle.theory.specs.Judgements.{Judgement}
+use Rattle.trees.specs.Judgements.{Judgement}
 use Rattle.derivation.specs.Right.{AllRight, FirstBad, Derives}
 use Rattle.replay.specs.declared.judging.Verdict.{Verdict}
 use Rattle.replay.specs.declared.judging.Verdict.TheVariants.{Yes, No}

@@ -4,7 +4,7 @@ ghost use Rattle.std.specs.Prelude.{◌≡◌, [], ◌∷◌, IfOk};
 ghost use Rattle.replay.specs.Meant.{count_roots};
 ghost use Rattle.replay.specs.Verdicts.{VerdictIs};
 
-use crate::rows::Rows;
+use crate::row_judge::RowJudge;
 use deriv_file::{Next, Row, RowReader};
 use std::alloc::{AllocError, Global};
 
@@ -21,18 +21,15 @@ pub enum Verdict {
 fn root_count(row: &Row) -> u64
     ensures { result ≡ count_roots (row.now ∷ []) }
 {
-    match row {
-        Row::Root(_) => 1,
-        Row::Header(_) | Row::Make(_, _) | Row::CtxNil | Row::Node(_, _, _) => 0,
-    }
+    if matches!(row, Row::Root(_)) { 1 } else { 0 }
 }
 
-/// Judges a derivation file. The only error is want of memory.
+/// Judges a derivation file. The only error is to be out of memory.
 pub fn judge(alloc: Global, bytes: &[u8]) -> Result<Verdict, AllocError>
     ensures { IfOk result (VerdictIs bytes.now) }
 {
     let mut reader = RowReader::new(bytes);
-    let mut rows = Rows::new(alloc);
+    let mut judge = RowJudge::new(alloc);
     let mut roots = 0;
     loop {
         let row = match reader.next(alloc)? {
@@ -40,14 +37,14 @@ pub fn judge(alloc: Global, bytes: &[u8]) -> Result<Verdict, AllocError>
             Next::BadSpelling(row) => return Ok(Verdict::No { row }),
             Next::End => break,
         };
-        let right = rows.add(alloc, &row)?;
-        let count = rows.len() as u64;
+        let right = judge.add(alloc, &row)?;
+        let count = judge.len() as u64;
         if !right {
             return Ok(Verdict::No { row: count });
         }
         roots += root_count(&row);
     }
-    Ok(match rows.len() as u64 {
+    Ok(match judge.len() as u64 {
         0 => Verdict::No { row: 0 },
         rows => Verdict::Yes { rows, roots },
     })

@@ -2,17 +2,19 @@
 //!
 //! It shares with the checker the language of the theory, the rules, the rows of files and the comparison of rows, and
 //! nothing else.
+//!
+//! For example the verdict on `rules 1`, `c nil`, `n ctx.nil`, `r 2`, each with its newline, is four rows and one root;
+//! with `r 1` in place of `r 2` it is that row 3 is the first that is not right.
 #![tactic(auto)]
 
-mod entries;
-mod entry;
+mod filed;
+mod filed_rows;
 mod judging;
 mod named;
 mod node;
 mod number;
-mod rows;
-mod store;
-mod stored;
+mod row_judge;
+mod thing;
 
 pub use judging::{Verdict, judge};
 

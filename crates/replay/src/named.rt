@@ -1,44 +1,82 @@
 //! The things that a row of the file names.
 
-ghost use Rattle.std.specs.Prelude.{◌≡◌, ◌<◌, length, slice_get, IfOk, IfSome, IfNone};
+ghost use Rattle.std.specs.Prelude.{◌≡◌, ◌<◌, length, slice_get, option_map, IfOk, IfSome, IfNone, Some};
 ghost use Rattle.std.specs.List.{All};
-ghost use Rattle.replay.specs.Filed.{AllFiled};
-ghost use Rattle.replay.specs.Named.{Names, NamesNone};
-ghost use Rattle.replay.specs.Shown.{shown};
+ghost use Rattle.trees.specs.Things.{kind_of};
+ghost use Rattle.rows.specs.Shown.{things};
+ghost use Rattle.derivation.specs.Meanings.{thing_at};
+ghost use Rattle.replay.specs.Filed.{file_meanings, AllFiled};
+ghost use Rattle.replay.specs.Named.{Names, NamesNone, NamesOne, NamesTwo, NamesNoTwo};
 
-use crate::entries::Entries;
-use crate::entry::Entry;
-use crate::store::Store;
+use crate::filed::Filed;
+use crate::filed_rows::FiledRows;
+use rows::RowStore;
 use std::alloc::{AllocError, Global};
 use theory::PartKind;
 
-/// The rows of the store behind numbers of the file, where these are things of the kinds.
+/// The row of the store for a row of the file, where this is a thing of the kind.
+fn named(store: &RowStore, filed: &FiledRows, number: u64, kind: PartKind) -> Option<u64>
+    requires filed { AllFiled (things store.now) filed.now }
+    requires earlier { number < length filed.now }
+    ensures some { IfSome result (NamesOne (things store.now) filed.now number kind) }
+    ensures none { IfNone result (let f = thing_at (file_meanings (things store.now) filed.now) in
+        option_map kind_of (f number) ≡ Some kind → ⊥) }
+{
+    match filed.row(number) {
+        Filed::Thing(row) => {
+            if store.kind(row) == kind {
+                Some(row)
+            } else {
+                None
+            }
+        }
+        Filed::Node(_) => None,
+        Filed::Nothing => None,
+    }
+}
+
+/// The rows of the store for two rows of the file, where these are things of the kinds.
+pub fn named_two(
+    store: &RowStore,
+    filed: &FiledRows,
+    first: (u64, PartKind),
+    second: (u64, PartKind),
+) -> Option<(u64, u64)>
+    requires filed { AllFiled (things store.now) filed.now }
+    requires first { first.0 < length filed.now }
+    requires second { second.0 < length filed.now }
+    ensures some { IfSome result (NamesTwo (things store.now) filed.now first second) }
+    ensures none { IfNone result (NamesNoTwo (things store.now) filed.now first second) }
+{
+    let (number, kind) = first;
+    let (other, other_kind) = second;
+    let first_row = named(store, filed, number, kind)?;
+    let second_row = named(store, filed, other, other_kind)?;
+    Some((first_row, second_row))
+}
+
+/// The rows of the store for rows of the file, where these are things of the kinds.
 pub fn named_rows(
     alloc: Global,
-    store: &Store,
-    entries: &Entries,
+    store: &RowStore,
+    filed: &FiledRows,
     numbers: &[u64],
     kinds: &[PartKind],
 ) -> Result<Option<Vec<u64>>, AllocError>
-    requires filed { AllFiled (shown store.now) entries.now }
+    requires filed { AllFiled (things store.now) filed.now }
     requires count { length numbers.now ≡ length kinds.now }
-    requires earlier { All (λ k. k < length entries.now) numbers.now }
-    ensures some { IfOk result (λ found. IfSome found (λ rows. Names (shown store.now) entries.now numbers.now kinds.now rows.items)) }
-    ensures none { IfOk result (λ found. IfNone found (NamesNone (shown store.now) entries.now numbers.now kinds.now)) }
+    requires earlier { All (λ k. k < length filed.now) numbers.now }
+    ensures some { IfOk result (λ found. IfSome found (λ rows.
+        Names (things store.now) filed.now numbers.now kinds.now rows.items)) }
+    ensures none { IfOk result (λ found. IfNone found
+        (NamesNone (things store.now) filed.now numbers.now kinds.now)) }
 {
     let mut rows = Vec::with_capacity(alloc, numbers.len())?;
     for at in 0..numbers.len() {
-        let kind = kinds[at];
-        match entries.entry(numbers[at]) {
-            Entry::Thing(row) => {
-                if store.kind(row) != kind {
-                    return Ok(None);
-                }
-                rows.push(row)?;
-            }
-            Entry::Node(_) => return Ok(None),
-            Entry::Nothing => return Ok(None),
-        }
+        let Some(row) = named(store, filed, numbers[at], kinds[at]) else {
+            return Ok(None);
+        };
+        rows.push(row)?;
     }
     Ok(Some(rows))
 }

@@ -30,6 +30,16 @@ fn lines(alloc: Global, rows: &[&str]) -> Result<String, AllocError> {
     Ok(text)
 }
 
+/// The verdict on the rows with another row at a place.
+fn verdict_with(alloc: Global, rows: &[&str], at: usize, row: &str) -> Result<Verdict, AllocError> {
+    let mut text = String::new(alloc);
+    for (k, line) in rows.iter().enumerate() {
+        text.push_str(if k == at { row } else { *line })?;
+        text.push('\n')?;
+    }
+    judge(alloc, text.as_bytes())
+}
+
 #[test]
 fn right_rows_are_right(rt: HostRuntime) -> Result<(), Fail> {
     // the number of rows, and of roots among them
@@ -47,9 +57,7 @@ fn right_rows_are_right(rt: HostRuntime) -> Result<(), Fail> {
 fn equal_trees_need_not_be_one_row(rt: HostRuntime) -> Result<(), Fail> {
     let mut rows = TWO;
     rows[6] = "t zero";
-    rows[9] = "n suc 1 6 8";
-    let text = lines(rt.alloc(), &rows)?;
-    let verdict = judge(rt.alloc(), text.as_bytes())?;
+    let verdict = verdict_with(rt.alloc(), &rows, 9, "n suc 1 6 8")?;
     assert_eq!(rt; verdict, Verdict::Yes { rows: 13, roots: 1 });
     Ok(())
 }
@@ -57,7 +65,7 @@ fn equal_trees_need_not_be_one_row(rt: HostRuntime) -> Result<(), Fail> {
 #[test]
 fn the_first_bad_row_is_named(rt: HostRuntime) -> Result<(), Fail> {
     // a row of the file above, and what stands there instead
-    let cases: [(usize, &str); 19] = [
+    let cases: [(usize, &str); 21] = [
         (0, "c nil"),
         (0, "rules 2"),
         (1, "rules 1"),
@@ -68,6 +76,8 @@ fn the_first_bad_row_is_named(rt: HostRuntime) -> Result<(), Fail> {
         (5, "n ty.u 4 1 3"),
         (5, "n ty.u 1 1 3"),
         (5, "n ty.u 1 4 2"),
+        (5, "n ty.u 1 4 0"),
+        (9, "n suc 1 7 6"),
         (6, "r 4"),
         (6, "r 0"),
         (7, "t suc 1"),
@@ -79,13 +89,152 @@ fn the_first_bad_row_is_named(rt: HostRuntime) -> Result<(), Fail> {
         (12, "r 12"),
     ];
     for (at, row) in cases {
-        let mut rows = TWO;
-        rows[at] = row;
-        let text = lines(rt.alloc(), &rows)?;
-        let verdict = judge(rt.alloc(), text.as_bytes())?;
+        let verdict = verdict_with(rt.alloc(), &TWO, at, row)?;
         assert_eq!(rt; verdict, Verdict::No { row: at as u64 }, "at {row}");
     }
     assert_eq!(rt; judge(rt.alloc(), b"".as_slice())?, Verdict::No { row: 0 });
+    Ok(())
+}
+
+// The identity on Nat applied to zero, and zero as a variable under a substitution.
+const IDENTITY: [&str; 33] = [
+    "rules 1",
+    "c nil",
+    "n ctx.nil",
+    "t nat",
+    "n nat.u 1 2",
+    "n ty.u 1 3 4",
+    "c var 1 3",
+    "n ctx.var 1 3 5",
+    "n nat.u 6 7",
+    "n ty.u 6 3 8",
+    "s shift 0",
+    "n sub.id 1 2",
+    "s shift 1",
+    "n sub.wk 1 10 1 3 11 5",
+    "t var 0",
+    "n tm.var 1 3 5",
+    "t zero",
+    "n zero 1 2",
+    "s push 10 16",
+    "n sub.var 1 10 1 3 16 11 5 17",
+    "n tm.sub 1 18 6 14 3 19 15",
+    "n ty.sub 1 18 6 3 19 9",
+    "t pi 3 3",
+    "n pi.ty 1 3 3 5 9",
+    "n pi.u 1 3 3 4 8",
+    "t lam 3 14",
+    "n lam 1 3 14 3 5 15",
+    "n app 1 25 16 3 3 26 17",
+    "r 27",
+    "n suc 1 16 20",
+    "r 29",
+    "x 14 18",
+    "n suc 1 31 17",
+];
+
+#[test]
+fn trees_are_compared_by_what_they_mean(rt: HostRuntime) -> Result<(), Fail> {
+    // the file as it stands, and with other spellings of the same trees
+    let cases: [(usize, &str); 4] = [
+        (31, "x 14 18"),
+        (31, "x 16 18"),
+        (31, "t zero"),
+        (29, "n suc 1 16 17"),
+    ];
+    for (at, row) in cases {
+        let verdict = verdict_with(rt.alloc(), &IDENTITY, at, row)?;
+        assert_eq!(rt; verdict, Verdict::Yes { rows: 33, roots: 2 }, "at {row}");
+    }
+    Ok(())
+}
+
+#[test]
+fn one_thing_wrong_is_found(rt: HostRuntime) -> Result<(), Fail> {
+    // a row, what stands there instead, and the first bad row
+    let cases: [(usize, &str, u64); 77] = [
+        (6, "c var 3 1", 6),
+        (6, "c name 1", 6),
+        (6, "c face 1 3", 6),
+        (7, "n ctx.var 1 3 4", 7),
+        (7, "n ctx.var 1 1 5", 7),
+        (7, "n ctx.var 3 1 5", 7),
+        (7, "n ctx.var 1 3", 7),
+        (7, "n ctx.var 1 3 5 5", 7),
+        (7, "n ctx.va 1 3 5", 7),
+        (7, "n ctx.vars 1 3 5", 7),
+        (8, "n nat.u 6 2", 8),
+        (10, "s shift 1", 13),
+        (10, "s shift 4611686018427387905", 10),
+        (11, "n sub.id 1 5", 11),
+        (11, "n sub.id 6 2", 11),
+        (11, "n sub.id 10 2", 11),
+        (13, "n sub.wk 6 10 1 3 11 5", 13),
+        (13, "n sub.wk 1 12 1 3 11 5", 13),
+        (13, "n sub.wk 1 10 6 3 11 5", 13),
+        (13, "n sub.wk 1 10 1 3 5 11", 13),
+        (13, "n sub.wk 1 10 1 3 11 9", 13),
+        (13, "n sub.wk 1 3 1 10 11 5", 13),
+        (14, "t var 1", 20),
+        (14, "t var 4294967296", 14),
+        (15, "n tm.var 6 3 5", 15),
+        (15, "n tm.var 1 3 9", 15),
+        (15, "n tm.var 1 14 5", 15),
+        (18, "s push 16 10", 18),
+        (18, "s push 10 1", 18),
+        (18, "s push 10 14", 20),
+        (19, "n sub.var 6 10 1 3 16 11 5 17", 19),
+        (19, "n sub.var 1 12 1 3 16 11 5 17", 19),
+        (19, "n sub.var 1 10 6 3 16 11 5 17", 19),
+        (19, "n sub.var 1 10 1 16 16 11 5 17", 19),
+        (19, "n sub.var 1 10 1 3 3 11 5 17", 19),
+        (19, "n sub.var 1 10 1 3 16 11 5 4", 19),
+        (19, "n sub.var 1 10 1 3 16 11 9 17", 19),
+        (19, "n sub.var 1 10 1 3 16 13 5 17", 19),
+        (20, "n tm.sub 6 18 6 14 3 19 15", 20),
+        (20, "n tm.sub 1 10 6 14 3 19 15", 20),
+        (20, "n tm.sub 1 18 1 14 3 19 15", 20),
+        (20, "n tm.sub 1 18 6 16 3 19 15", 20),
+        (20, "n tm.sub 1 18 6 14 16 19 15", 20),
+        (20, "n tm.sub 1 18 6 14 3 11 15", 20),
+        (20, "n tm.sub 1 18 6 14 3 19 17", 20),
+        (21, "n ty.sub 1 18 6 14 19 9", 21),
+        (21, "n ty.sub 1 18 6 3 19 5", 21),
+        (21, "n ty.sub 1 18 6 3 13 9", 21),
+        (22, "t pi 3", 22),
+        (22, "t pi 3 3 3", 22),
+        (22, "t pi 3 6", 22),
+        (23, "n pi.ty 1 3 3 5 5", 23),
+        (23, "n pi.ty 1 3 16 5 9", 23),
+        (23, "n pi.ty 1 16 3 5 9", 23),
+        (23, "n pi.ty 6 3 3 5 9", 23),
+        (24, "n pi.u 1 3 3 4 4", 24),
+        (24, "n pi.u 1 3 3 5 8", 24),
+        (24, "n pi.u 1 3 16 4 8", 24),
+        (25, "t lam 3 16", 27),
+        (26, "n lam 1 3 16 3 5 15", 26),
+        (26, "n lam 1 3 14 16 5 15", 26),
+        (26, "n lam 1 16 14 3 5 15", 26),
+        (26, "n lam 1 3 14 3 9 15", 26),
+        (26, "n lam 1 3 14 3 5 17", 26),
+        (27, "n app 1 16 16 3 3 26 17", 27),
+        (27, "n app 1 25 3 3 3 26 17", 27),
+        (27, "n app 1 25 16 16 3 26 17", 27),
+        (27, "n app 1 25 16 3 14 26 17", 27),
+        (27, "n app 1 25 16 3 3 17 17", 27),
+        (27, "n app 1 25 16 3 3 26 26", 27),
+        (29, "n suc 1 16 15", 29),
+        (29, "n suc 1 14 20", 29),
+        (31, "x 18 14", 31),
+        (31, "x 14 6", 31),
+        (31, "x 1 18", 31),
+        (31, "x 14 31", 31),
+        (31, "x 14 10", 32),
+    ];
+    for (at, row, bad) in cases {
+        let verdict = verdict_with(rt.alloc(), &IDENTITY, at, row)?;
+        assert_eq!(rt; verdict, Verdict::No { row: bad }, "at {row}");
+    }
     Ok(())
 }
 
@@ -118,5 +267,22 @@ fn towers_are_compared(rt: HostRuntime) -> Result<(), Fail> {
     let verdict = judge(rt.alloc(), text.as_bytes())?;
     let rows = 3 * HEIGHT + 8;
     assert_eq!(rt; verdict, Verdict::Yes { rows, roots: 1 });
+    Ok(())
+}
+
+#[test]
+fn long_files_are_judged(rt: HostRuntime) -> Result<(), Fail> {
+    let mut text = String::new(rt.alloc());
+    text.push_str("rules 1\n")?;
+    for _ in 0..70_000 {
+        text.push_str("c nil\n")?;
+    }
+    text.push_str("n ctx.nil\nr 70001\n")?;
+    let verdict = judge(rt.alloc(), text.as_bytes())?;
+    let rows = 70_003;
+    assert_eq!(rt; verdict, Verdict::Yes { rows, roots: 1 });
+    text.push_str("r 70000\n")?;
+    let verdict = judge(rt.alloc(), text.as_bytes())?;
+    assert_eq!(rt; verdict, Verdict::No { row: 70_003 });
     Ok(())
 }

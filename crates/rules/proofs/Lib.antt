@@ -1,4 +1,6 @@
-pub mod Stacks
-pub mod Runs
+mod StackLaws
+mod RunLaws
+mod ThenLaws
+mod PlaceLaws
 pub mod Readings
 pub mod TableLaws

@@ -1,37 +1,47 @@
 -- Facts on every rule of the table.
-use Rattle.std.proofs.Common.{◌≡◌, List, [], ◌∷◌, length, refl, sym, ◌∙◌, ap, Some, IsSome, map}
-use Rattle.theory.specs.declared.rule.PartKind.{PartKind}
-use Rattle.theory.specs.declared.rule.PartKind.TheVariants as part
+use Rattle.std.proofs.Common.{rules, ◌≡◌, List, [], ◌∷◌, length, refl, sym, ◌∙◌, ap, Some, IsSome, map}
+use Rattle.trees.specs.declared.kind.PartKind.{PartKind}
+use Rattle.trees.specs.declared.kind.PartKind.TheVariants as part
 use Rattle.theory.specs.declared.rule.ContextRule.TheVariants.{CtxNil}
 use Rattle.theory.specs.declared.rule.UniverseRule.TheVariants.{TyU}
-use Rattle.theory.specs.declared.rule.NatRule.TheVariants.{NatU, Zero, Suc}
+use Rattle.theory.specs.declared.rule.SubstitutionRule.TheVariants.{TySub}
+use Rattle.theory.specs.declared.rule.PiRule.TheVariants.{PiTy}
+use Rattle.theory.specs.declared.rule.NatRule.TheVariants.{NatU}
 use Rattle.theory.specs.declared.rule.RuleName.{RuleName}
-use Rattle.theory.specs.declared.rule.RuleName.TheVariants.{Contexts, Universe, Naturals}
-use Rattle.theory.specs.Judgements.{trees, TreeRule}
+use Rattle.theory.specs.declared.rule.RuleName.TheVariants.{Contexts, Substitution, Universe, Pi, Naturals}
+use Rattle.trees.specs.Judgements.{trees, TreeRule}
 use Rattle.theory.specs.RuleNames.{kinds_of, premises_of}
-use Rattle.theory.specs.Things.{Thing, ATree, ASubst, AContext, kind_of}
+use Rattle.trees.specs.Things.{Thing, ATree, ASubst, AContext, kind_of}
 use Rattle.rules.specs.Table.{Over}
-use Rattle.rules.specs.Rules.{tree_rule, over_parts, rule_at, AtAllParts}
+use Rattle.rules.specs.Rules.{tree_rule, over_parts, rule_at, AtAll}
 use Rattle.rules.proofs.Readings.{at_parts}
 
--- a rule wants as many premises as the table of names says
-counted : (name : RuleName) → AtAllParts (kinds_of name) (tree_rule name) (λ xs r. length r.wants ≡ premises_of name)
-counted (Contexts CtxNil) = refl
-counted (Universe TyU) = λ G A. refl
-counted (Naturals NatU) = λ G. refl
-counted (Naturals Zero) = λ G. refl
-counted (Naturals Suc) = λ G n. refl
+-- a rule wants as many premises as its signature says
+counted : (name : RuleName) → AtAll name (λ xs r. length r.wants ≡ premises_of name)
+counted (Contexts CtxNil) = search rules
+counted (Contexts _) = search rules
+counted (Substitution TySub) = search rules
+counted (Substitution _) = search rules
+counted (Universe TyU) = search rules
+counted (Pi PiTy) = search rules
+counted (Pi _) = search rules
+counted (Naturals NatU) = search rules
+counted (Naturals _) = search rules
 
 -- no rule so far has a side condition
-sideless : (name : RuleName) → AtAllParts (kinds_of name) (tree_rule name) (λ xs r. r.sides ≡ [])
-sideless (Contexts CtxNil) = refl
-sideless (Universe TyU) = λ G A. refl
-sideless (Naturals NatU) = λ G. refl
-sideless (Naturals Zero) = λ G. refl
-sideless (Naturals Suc) = λ G n. refl
+sideless : (name : RuleName) → AtAll name (λ xs r. r.sides ≡ [])
+sideless (Contexts CtxNil) = search rules
+sideless (Contexts _) = search rules
+sideless (Substitution TySub) = search rules
+sideless (Substitution _) = search rules
+sideless (Universe TyU) = search rules
+sideless (Pi PiTy) = search rules
+sideless (Pi _) = search rules
+sideless (Naturals NatU) = search rules
+sideless (Naturals _) = search rules
 
 -- what holds at all parts holds of the rule at these
-pub at_these : (name : RuleName) (P : List Thing → TreeRule → Type 0) → AtAllParts (kinds_of name) (tree_rule name) P → (xs : List Thing) (r : TreeRule) → rule_at name xs ≡ Some r → P xs r
+pub at_these : (name : RuleName) (P : List Thing → TreeRule → Type 0) → AtAll name P → (xs : List Thing) (r : TreeRule) → rule_at name xs ≡ Some r → P xs r
 unfolding rule_at
 at_these name P h xs r e =
     let a = at_parts (kinds_of name) (tree_rule name) P h xs (rw e refl) in

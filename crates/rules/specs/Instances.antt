@@ -2,8 +2,8 @@
 use Rattle.std.specs.Prelude.{◌≡◌, List, Some}
 use Rattle.std.specs.List.{All}
 use Rattle.theory.specs.declared.rule.RuleName.{RuleName}
-use Rattle.theory.specs.Judgements.{Judgement, TreeRule}
-use Rattle.theory.specs.Things.{Thing}
+use Rattle.trees.specs.Judgements.{Judgement, TreeRule}
+use Rattle.trees.specs.Things.{Thing}
 use Rattle.rules.specs.Rules.{rule_at}
 use Rattle.rules.specs.Sides.{SideHolds}
 

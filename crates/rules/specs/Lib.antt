@@ -1,7 +1,9 @@
 pub mod Table
 pub mod Rules
 pub mod Run
+pub mod Shifts
 pub mod Schemas
 pub mod Claims
 pub mod Sides
+pub mod Formulas
 pub mod Instances

@@ -1,11 +1,17 @@
 -- The rules at trees: what the table means.
 use Rattle.std.specs.Prelude.{List, [], ◌∷◌, Option, Some, None}
-use Rattle.theory.specs.declared.rule.PartKind.{PartKind}
-use Rattle.theory.specs.declared.rule.PartKind.TheVariants as part
+use Rattle.trees.specs.declared.kind.PartKind.{PartKind}
+use Rattle.trees.specs.declared.kind.PartKind.TheVariants as part
 use Rattle.theory.specs.declared.rule.RuleName.{RuleName}
-use Rattle.theory.specs.Trees.{Tree, Subst}
-use Rattle.theory.specs.Judgements.{Context, trees, TreeRule}
-use Rattle.theory.specs.Things.{Thing, ATree, ASubst, AContext}
+use Rattle.theory.specs.declared.rule.RuleName.TheVariants.{Contexts, Substitution, Universe, Pi, Naturals}
+use Rattle.theory.specs.declared.rule.ContextRule.TheVariants.{CtxNil}
+use Rattle.theory.specs.declared.rule.UniverseRule.TheVariants.{TyU}
+use Rattle.theory.specs.declared.rule.SubstitutionRule.TheVariants.{TySub}
+use Rattle.theory.specs.declared.rule.PiRule.TheVariants.{PiTy}
+use Rattle.theory.specs.declared.rule.NatRule.TheVariants.{NatU}
+use Rattle.trees.specs.Trees.{Tree, Subst}
+use Rattle.trees.specs.Judgements.{Context, trees, TreeRule}
+use Rattle.trees.specs.Things.{Thing, ATree, ASubst, AContext}
 use Rattle.theory.specs.RuleNames.{kinds_of}
 use Rattle.rules.specs.Table.{Over, rule}
 
@@ -30,3 +36,20 @@ AtAllParts [] r P = P [] r
 AtAllParts (part.Context ∷ kinds) r P = (G : Context) → AtAllParts kinds (r G) (λ xs y. P (AContext G ∷ xs) y)
 AtAllParts (part.Subst ∷ kinds) r P = (d : Subst) → AtAllParts kinds (r d) (λ xs y. P (ASubst d ∷ xs) y)
 AtAllParts (part.Term ∷ kinds) r P = (t : Tree) → AtAllParts kinds (r t) (λ xs y. P (ATree t ∷ xs) y)
+
+-- P holds of all parts of a rule's kinds and of the rule at them
+abbrev pub AtAll : RuleName → (List Thing → TreeRule → Type 0) → Type 0
+AtAll name = AtAllParts (kinds_of name) (tree_rule name)
+
+-- The same by cases, so that it computes as soon as the rule is known: the first line of a family makes the second run
+-- through the others.
+abbrev pub AtAllCases : RuleName → (List Thing → TreeRule → Type 0) → Type 0
+AtAllCases (Contexts CtxNil) P = AtAll (Contexts CtxNil) P
+AtAllCases (Contexts name) P = AtAll (Contexts name) P
+AtAllCases (Substitution TySub) P = AtAll (Substitution TySub) P
+AtAllCases (Substitution name) P = AtAll (Substitution name) P
+AtAllCases (Universe TyU) P = AtAll (Universe TyU) P
+AtAllCases (Pi PiTy) P = AtAll (Pi PiTy) P
+AtAllCases (Pi name) P = AtAll (Pi name) P
+AtAllCases (Naturals NatU) P = AtAll (Naturals NatU) P
+AtAllCases (Naturals name) P = AtAll (Naturals name) P

@@ -1,67 +1,115 @@
--- What a schema of programs says of a rule.
-use Rattle.std.specs.Prelude.{◌≡◌, Bool, true, nat_le, List, [], ◌∷◌, Option, Some, None, map, length}
-use Rattle.std.specs.List.{list_all}
+-- What the programs of a rule say.
+use Rattle.std.specs.Prelude.{◌≡◌, ◌==◌, ◌&&◌, ◌||◌, not, Bool, true, ℕ, nat_le, nat_lt, List, [], ◌∷◌, Option, Some, None, map, length, option_and_then}
+use Rattle.std.specs.List.{list_all, list_any}
 use Rattle.theory.specs.declared.rule.RuleName.{RuleName}
-use Rattle.theory.specs.Language.{Ctx, Ty, TyEq, Tm, TmEq, Sb, IsFormula, IsFace, Holds, Alike}
-use Rattle.theory.specs.Judgements.{Judgement, SideCondition, TreeRule}
-use Rattle.theory.specs.RuleNames.{kinds_of, premises_of}
-use Rattle.theory.specs.Things.{Thing, ATree, ASubst, AContext, one}
-use Rattle.rules.specs.Rules.{tree_rule, AtAllParts}
-use Rattle.rules.specs.Run.{run}
-use Rattle.rules.specs.declared.program.Step.{Step}
-use Rattle.theory.specs.declared.claim.Form.{Form}
-use Rattle.theory.specs.declared.claim.Form.TheVariants as form
-use Rattle.rules.specs.declared.program.TestForm.{TestForm}
-use Rattle.rules.specs.declared.program.TestForm.TheVariants as test
+use Rattle.theory.specs.RuleNames.{premises_of}
+use Rattle.trees.specs.declared.claim.JudgementForm.{JudgementForm}
+use Rattle.trees.specs.declared.claim.JudgementForm.TheVariants as form
+use Rattle.trees.specs.Language.{IsFormula, IsFace, Holds, Alike}
+use Rattle.trees.specs.Judgements.{Judgement, SideCondition, TreeRule}
+use Rattle.trees.specs.Things.{Thing, ATree, ASubst, AContext}
+use Rattle.trees.specs.Claimed.{said}
+use Rattle.rules.specs.Rules.{AtAllCases}
+use Rattle.rules.specs.Run.{things_of, rows_of_all, is_then, then_takes}
+use Rattle.rules.specs.declared.instruction.Instruction.{Instruction}
 use Rattle.rules.specs.declared.program.Program.{Program}
+use Rattle.rules.specs.declared.program.Program.TheVariants as program
 use Rattle.rules.specs.declared.program.Test.{Test}
+use Rattle.rules.specs.declared.program.Test.TheVariants as test
 use Rattle.rules.specs.declared.program.Schema.{Schema}
 
--- the judgement of that form over these things
-abbrev pub judged : Form → List Thing → Option Judgement
-judged form.Ctx (AContext G ∷ []) = Some (Ctx G)
-judged form.Ty (AContext G ∷ ATree A ∷ []) = Some (Ty G A)
-judged form.TyEq (AContext G ∷ ATree A ∷ ATree B ∷ []) = Some (TyEq G A B)
-judged form.Tm (AContext G ∷ ATree a ∷ ATree A ∷ []) = Some (Tm G a A)
-judged form.TmEq (AContext G ∷ ATree a ∷ ATree b ∷ ATree A ∷ []) = Some (TmEq G a b A)
-judged form.Sb (AContext H ∷ ASubst d ∷ AContext G ∷ []) = Some (Sb H d G)
-judged _ _ = None
+-- the form and the places of a judgement that is made
 
--- the side condition of that form over these things
-abbrev pub conditioned : TestForm → List Thing → Option SideCondition
-conditioned test.IsFormula (AContext G ∷ ATree r ∷ []) = Some (IsFormula G r)
-conditioned test.IsFace (AContext G ∷ ATree p ∷ []) = Some (IsFace G p)
-conditioned test.Holds (AContext G ∷ ATree p ∷ []) = Some (Holds G p)
-conditioned test.Alike (AContext G ∷ ASubst d ∷ ASubst e ∷ []) = Some (Alike G d e)
-conditioned _ _ = None
+abbrev pub form_of : Program → JudgementForm
+form_of (program.Ctx G) = form.Ctx
+form_of (program.Ty G A) = form.Ty
+form_of (program.TyEq G A B) = form.TyEq
+form_of (program.Tm G a A) = form.Tm
+form_of (program.TmEq G a b A) = form.TmEq
+form_of (program.Sb H d G) = form.Sb
 
-abbrev pub said : Form → Option (List Thing) → Option Judgement
-said form = one (judged form)
+abbrev pub places_of : Program → List (List Instruction)
+places_of (program.Ctx G) = G.now ∷ []
+places_of (program.Ty G A) = G.now ∷ A.now ∷ []
+places_of (program.TyEq G A B) = G.now ∷ A.now ∷ B.now ∷ []
+places_of (program.Tm G a A) = G.now ∷ a.now ∷ A.now ∷ []
+places_of (program.TmEq G a b A) = G.now ∷ a.now ∷ b.now ∷ A.now ∷ []
+places_of (program.Sb H d G) = H.now ∷ d.now ∷ G.now ∷ []
 
-abbrev pub tested : TestForm → Option (List Thing) → Option SideCondition
-tested form = one (conditioned form)
+abbrev pub judgement_of : Option (List Thing) → Program → Option Judgement
+judgement_of parts p = said (form_of p) (things_of parts (places_of p))
 
--- what a program says of parts
-abbrev pub judgement_of : List Thing → Program → Option Judgement
-judgement_of parts p = said p.form (run p.steps.now (Some parts))
+-- the same of side conditions
 
-abbrev pub condition_of : List Thing → Test → Option SideCondition
-condition_of parts t = tested t.form (run t.steps.now (Some parts))
+abbrev pub formula_over : List Thing → Option SideCondition
+formula_over (AContext G ∷ ATree r ∷ []) = Some (IsFormula G r)
+formula_over _ = None
 
--- the steps fit the stack
-abbrev pub fits : List Step → Bool
-fits steps = nat_le (length steps) 16
+abbrev pub face_over : List Thing → Option SideCondition
+face_over (AContext G ∷ ATree p ∷ []) = Some (IsFace G p)
+face_over _ = None
+
+abbrev pub holds_over : List Thing → Option SideCondition
+holds_over (AContext G ∷ ATree p ∷ []) = Some (Holds G p)
+holds_over _ = None
+
+abbrev pub alike_over : List Thing → Option SideCondition
+alike_over (AContext G ∷ ASubst d ∷ ASubst e ∷ []) = Some (Alike G d e)
+alike_over _ = None
+
+abbrev pub condition_over : Test → List Thing → Option SideCondition
+condition_over (test.IsFormula G r) = formula_over
+condition_over (test.IsFace G p) = face_over
+condition_over (test.Holds G p) = holds_over
+condition_over (test.Alike G d e) = alike_over
+
+abbrev pub test_places : Test → List (List Instruction)
+test_places (test.IsFormula G r) = G.now ∷ r.now ∷ []
+test_places (test.IsFace G p) = G.now ∷ p.now ∷ []
+test_places (test.Holds G p) = G.now ∷ p.now ∷ []
+test_places (test.Alike G d e) = G.now ∷ d.now ∷ e.now ∷ []
+
+abbrev pub condition_of : Option (List Thing) → Test → Option SideCondition
+condition_of parts t = option_and_then (condition_over t) (things_of parts (test_places t))
 
 -- at these parts the programs say what the rule does
-pub record Says (s : Schema) (parts : List Thing) (r : TreeRule) : Type 0 where
-  pub wants : map (judgement_of parts) s.wants.now ≡ map Some r.wants
-  pub sides : map (condition_of parts) s.sides.now ≡ map Some r.sides
-  pub gives : judgement_of parts s.gives ≡ Some r.gives
+abbrev pub Says : Schema → List Thing → TreeRule → Type 0
+Says s parts r =
+    (map (judgement_of (Some parts)) s.wants.now ≡ map Some r.wants)
+    × (map (condition_of (Some parts)) s.sides.now ≡ map Some r.sides)
+    × (judgement_of (Some parts) s.gives ≡ Some r.gives)
 
--- the programs are those of the rule, and fit the stack
-pub record Means (name : RuleName) (s : Schema) : Type 0 where
-  pub says : AtAllParts (kinds_of name) (tree_rule name) (Says s)
-  pub count : length s.wants.now ≡ premises_of name
-  pub wants_fit : list_all (λ p. fits p.steps.now) s.wants.now ≡ true
-  pub sides_fit : list_all (λ t. fits t.steps.now) s.sides.now ≡ true
-  pub gives_fits : fits s.gives.steps.now ≡ true
+-- Programs within bounds.
+
+-- how many rows the conclusion of a rule takes at most, with the row of its node
+abbrev pub most_rows : RuleName → ℕ
+most_rows rule = 16
+
+-- a place fits the stack, and each `then` takes what it may
+abbrev pub thens_fit : List Instruction → Bool
+thens_fit [] = true
+thens_fit (instruction ∷ rest) = (not (is_then instruction) || then_takes rest) && thens_fit rest
+
+abbrev pub has_then : List Instruction → Bool
+has_then = list_any is_then
+
+abbrev pub fits : List Instruction → Bool
+fits place = nat_le (length place) 16 && thens_fit place
+
+abbrev pub all_fit : ℕ → List (List Instruction) → Bool
+all_fit most places = list_all fits places && nat_lt (rows_of_all places) most
+
+-- without `then`
+abbrev pub plain_fit : ℕ → List (List Instruction) → Bool
+plain_fit most places = all_fit most places && not (list_any has_then places)
+
+abbrev pub is_bounded : RuleName → Schema → Bool
+is_bounded name s =
+    length s.wants.now == premises_of name
+    && list_all (λ p. plain_fit (most_rows name) (places_of p)) s.wants.now
+    && list_all (λ t. plain_fit (most_rows name) (test_places t)) s.sides.now
+    && all_fit (most_rows name) (places_of s.gives)
+
+-- the programs are those of the rule, and within its bounds
+abbrev pub Means : RuleName → Schema → Type 0
+Means name s = AtAllCases name (Says s) × (is_bounded name s ≡ true)

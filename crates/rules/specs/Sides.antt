@@ -1,9 +1,9 @@
 -- Side conditions: formulas and faces over the names of a context, faces that hold, and formulas of one value.
 use Rattle.std.specs.Prelude.{◌≡◌, ◌⊎◌, ℕ, zero, suc, ◌∷◌, drop, Bool, true, false, ◌&&◌, ◌||◌, IsTrue}
-use Rattle.theory.specs.declared.op.Op.TheVariants as op
-use Rattle.theory.specs.Trees.{Tree, Trees, Var, Make, NoTrees, More, Subst}
-use Rattle.theory.specs.Language.{IsFormula, IsFace, Holds, Alike}
-use Rattle.theory.specs.Judgements.{Context, Nil, WithVar, WithName, WithFace, SideCondition}
+use Rattle.trees.specs.declared.op.Op.TheVariants as op
+use Rattle.trees.specs.Trees.{Tree, Trees, Var, Make, NoTrees, More, Subst}
+use Rattle.trees.specs.Language.{IsFormula, IsFace, Holds, Alike}
+use Rattle.trees.specs.Judgements.{Context, Nil, WithVar, WithName, WithFace, SideCondition}
 use Rattle.points.specs.Values.{Value, zero_value, one_value, free_value, negation, meet, join, Valuation, value_at}
 use Rattle.points.specs.Points.{Point, Free, valuation_of, LiesOver}
 

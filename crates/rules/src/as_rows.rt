@@ -1,18 +1,21 @@
 //! What a rule wants and gives, as rows.
 
-ghost use Rattle.std.specs.Prelude.{◌≡◌, ◌≤◌, ◌<◌, ◌+◌, length, IfOk, IfSome, IfNone, IsOk, IsSome, true};
+ghost use Rattle.std.specs.Prelude.{◌≡◌, ◌≤◌, ◌<◌, ◌+◌, IfOk, IfSome, IfNone, IsOk, IsSome, IsTrue, true};
+ghost use Rattle.std.specs.List.{list_all, list_any};
 ghost use Rattle.theory.specs.RuleNames.{premises_of};
-ghost use Rattle.theory.specs.Things.{Kept, meanings};
-ghost use Rattle.rules.specs.Run.{run};
-ghost use Rattle.rules.specs.Schemas.{said, tested, fits};
-ghost use Rattle.rules.specs.Claims.{claimed, asked, rule_over, premise_at, side_at, conclusion_of, sides_in};
+ghost use Rattle.trees.specs.Things.{Kept, meanings};
+ghost use Rattle.trees.specs.Claimed.{claimed};
+ghost use Rattle.rules.specs.Run.{rows_of_all};
+ghost use Rattle.rules.specs.Shifts.{ShiftsFit};
+ghost use Rattle.rules.specs.Schemas.{judgement_of, condition_of, places_of, test_places, fits, has_then, most_rows};
+ghost use Rattle.rules.specs.Claims.{asked, rule_over, premise_at, side_at, conclusion_of, sides_in};
 
-use crate::evaluate::evaluate;
-use crate::maker::Maker;
-use crate::program::{Program, Test, TestForm};
+use crate::machine::rows_of;
+use crate::program::{Program, Test};
 use crate::table::schema_of;
+use rows::Maker;
 use std::alloc::AllocError;
-use theory::{Claim, Form, RuleName};
+use theory::{Claim, RuleName};
 
 /// A side condition whose context, trees and substitutions are named by the numbers of their rows.
 #[derive(Clone, Copy, Debug, PartialEq, Eq)]
@@ -27,63 +30,90 @@ pub enum SideTest {
     Alike(u64, u64, u64),
 }
 
-/// The claim of a program.
-fn claim_of<M: Maker>(maker: &mut M, parts: &[u64], program: Program) -> Result<Claim, AllocError>
-    requires fits { fits program.steps.now ≡ true }
+/// The claim that a program makes.
+pub(crate) fn claim_of<M: Maker>(
+    maker: &mut M,
+    parts: &[u64],
+    program: Program,
+) -> Result<Claim, AllocError>
+    requires fits { list_all fits (places_of program) ≡ true }
     requires live { IsSome (meanings (M.means maker.old) parts.now) }
-    requires says { IsSome (said program.form (run program.steps.now (meanings (M.means maker.old) parts.now))) }
-    ensures covered { 16 ≤ M.spare maker.old → IsOk result }
-    ensures spends { M.spare maker.old ≤ M.spare maker.new + 16 }
+    requires says { IsSome (judgement_of (meanings (M.means maker.old) parts.now) program) }
+    requires shifts { IsTrue (list_any has_then (places_of program)) →
+        ShiftsFit (meanings (M.means maker.old) parts.now) }
+    ensures covered { rows_of_all (places_of program) ≤ M.spare maker.old → IsOk result }
+    ensures spends { M.spare maker.old ≤ M.spare maker.new + rows_of_all (places_of program) }
     ensures kept { Kept (M.means maker.old) (M.means maker.new) }
-    ensures claim { IfOk result (λ claim. claimed (M.means maker.new) claim ≡ said program.form (run program.steps.now (meanings (M.means maker.old) parts.now))) }
+    ensures claim { IfOk result (λ claim. claimed (M.means maker.new) claim ≡
+        judgement_of (meanings (M.means maker.old) parts.now) program) }
 {
-    let mut stack = evaluate(maker, parts, program.steps)?;
-    let first = stack.pop();
-    match program.form {
-        Form::Ctx => Ok(Claim::Ctx(first)),
-        Form::Ty => Ok(Claim::Ty(first, stack.pop())),
-        Form::TyEq => {
-            let second = stack.pop();
-            Ok(Claim::TyEq(first, second, stack.pop()))
+    match program {
+        Program::Ctx(g) => {
+            let [g]: [u64; 1] = rows_of(maker, parts, &[g])?;
+            Ok(Claim::Ctx(g))
         }
-        Form::Tm => {
-            let second = stack.pop();
-            Ok(Claim::Tm(first, second, stack.pop()))
+        Program::Ty(g, a) => {
+            let [g, a]: [u64; 2] = rows_of(maker, parts, &[g, a])?;
+            Ok(Claim::Ty(g, a))
         }
-        Form::TmEq => {
-            let second = stack.pop();
-            let third = stack.pop();
-            Ok(Claim::TmEq(first, second, third, stack.pop()))
+        Program::TyEq(g, a, b) => {
+            let [g, a, b]: [u64; 3] = rows_of(maker, parts, &[g, a, b])?;
+            Ok(Claim::TyEq(g, a, b))
         }
-        Form::Sb => {
-            let second = stack.pop();
-            Ok(Claim::Sb(first, second, stack.pop()))
+        Program::Tm(g, a, t) => {
+            let [g, a, t]: [u64; 3] = rows_of(maker, parts, &[g, a, t])?;
+            Ok(Claim::Tm(g, a, t))
+        }
+        Program::TmEq(g, a, b, t) => {
+            let [g, a, b, t]: [u64; 4] = rows_of(maker, parts, &[g, a, b, t])?;
+            Ok(Claim::TmEq(g, a, b, t))
+        }
+        Program::Sb(h, d, g) => {
+            let [h, d, g]: [u64; 3] = rows_of(maker, parts, &[h, d, g])?;
+            Ok(Claim::Sb(h, d, g))
         }
     }
 }
 
-/// The side test of a program.
-fn test_of<M: Maker>(maker: &mut M, parts: &[u64], test: Test) -> Result<SideTest, AllocError>
-    requires fits { fits test.steps.now ≡ true }
+/// The side test that a program makes.
+pub(crate) fn test_of<M: Maker>(
+    maker: &mut M,
+    parts: &[u64],
+    test: Test,
+) -> Result<SideTest, AllocError>
+    requires fits { list_all fits (test_places test) ≡ true }
     requires live { IsSome (meanings (M.means maker.old) parts.now) }
-    requires says { IsSome (tested test.form (run test.steps.now (meanings (M.means maker.old) parts.now))) }
-    ensures covered { 16 ≤ M.spare maker.old → IsOk result }
-    ensures spends { M.spare maker.old ≤ M.spare maker.new + 16 }
+    requires says { IsSome (condition_of (meanings (M.means maker.old) parts.now) test) }
+    requires shifts { IsTrue (list_any has_then (test_places test)) →
+        ShiftsFit (meanings (M.means maker.old) parts.now) }
+    ensures covered { rows_of_all (test_places test) ≤ M.spare maker.old → IsOk result }
+    ensures spends { M.spare maker.old ≤ M.spare maker.new + rows_of_all (test_places test) }
     ensures kept { Kept (M.means maker.old) (M.means maker.new) }
-    ensures test { IfOk result (λ side. asked (M.means maker.new) side ≡ tested test.form (run test.steps.now (meanings (M.means maker.old) parts.now))) }
+    ensures test { IfOk result (λ side. asked (M.means maker.new) side ≡
+        condition_of (meanings (M.means maker.old) parts.now) test) }
 {
-    let mut stack = evaluate(maker, parts, test.steps)?;
-    let first = stack.pop();
-    let second = stack.pop();
-    match test.form {
-        TestForm::IsFormula => Ok(SideTest::IsFormula(first, second)),
-        TestForm::IsFace => Ok(SideTest::IsFace(first, second)),
-        TestForm::Holds => Ok(SideTest::Holds(first, second)),
-        TestForm::Alike => Ok(SideTest::Alike(first, second, stack.pop())),
+    match test {
+        Test::IsFormula(g, r) => {
+            let [g, r]: [u64; 2] = rows_of(maker, parts, &[g, r])?;
+            Ok(SideTest::IsFormula(g, r))
+        }
+        Test::IsFace(g, p) => {
+            let [g, p]: [u64; 2] = rows_of(maker, parts, &[g, p])?;
+            Ok(SideTest::IsFace(g, p))
+        }
+        Test::Holds(g, p) => {
+            let [g, p]: [u64; 2] = rows_of(maker, parts, &[g, p])?;
+            Ok(SideTest::Holds(g, p))
+        }
+        Test::Alike(h, d, e) => {
+            let [h, d, e]: [u64; 3] = rows_of(maker, parts, &[h, d, e])?;
+            Ok(SideTest::Alike(h, d, e))
+        }
     }
 }
 
-/// The premise that a rule wants at a place, counted from 0, in at most 16 rows. The parts are live rows of the rule's kinds.
+/// The premise that a rule wants at a place, counted from 0. The parts are live rows of the
+/// rule's kinds. It adds fewer than `most_rows` rows.
 pub fn wanted<M: Maker>(
     maker: &mut M,
     rule: RuleName,
@@ -92,16 +122,17 @@ pub fn wanted<M: Maker>(
 ) -> Result<Claim, AllocError>
     requires parts { IsSome (rule_over rule (meanings (M.means maker.old) parts.now)) }
     requires within { at < premises_of rule }
-    ensures covered { 16 ≤ M.spare maker.old → IsOk result }
-    ensures spends { M.spare maker.old ≤ M.spare maker.new + 16 }
+    ensures covered { most_rows rule ≤ M.spare maker.old + 1 → IsOk result }
+    ensures spends { M.spare maker.old < M.spare maker.new + most_rows rule }
     ensures kept { Kept (M.means maker.old) (M.means maker.new) }
-    ensures claim { IfOk result (λ claim. claimed (M.means maker.new) claim ≡ premise_at at (rule_over rule (meanings (M.means maker.old) parts.now))) }
+    ensures claim { let r = rule_over rule (meanings (M.means maker.old) parts.now) in
+        IfOk result (λ claim. claimed (M.means maker.new) claim ≡ premise_at at r) }
 {
     claim_of(maker, parts, schema_of(rule).wants[at as usize])
 }
 
-/// The test of a rule's side condition at a place, counted from 0, and none past the last. The parts are live rows of
-/// the rule's kinds.
+/// The test of a rule's side condition at a place, counted from 0, and none past the last. The
+/// parts are live rows of the rule's kinds. It adds fewer than `most_rows` rows.
 pub fn side<M: Maker>(
     maker: &mut M,
     rule: RuleName,
@@ -109,12 +140,16 @@ pub fn side<M: Maker>(
     at: u8,
 ) -> Result<Option<SideTest>, AllocError>
     requires { IsSome (rule_over rule (meanings (M.means maker.old) parts.now)) }
-    ensures covered { 16 ≤ M.spare maker.old → IsOk result }
-    ensures spends { M.spare maker.old ≤ M.spare maker.new + 16 }
+    ensures covered { most_rows rule ≤ M.spare maker.old + 1 → IsOk result }
+    ensures spends { M.spare maker.old < M.spare maker.new + most_rows rule }
     ensures kept { Kept (M.means maker.old) (M.means maker.new) }
-    ensures some { IfOk result (λ found. IfSome found (λ test. asked (M.means maker.new) test ≡ side_at at (rule_over rule (meanings (M.means maker.old) parts.now)))) }
-    ensures place { IfOk result (λ found. IfSome found (λ _. at < sides_in (rule_over rule (meanings (M.means maker.old) parts.now)))) }
-    ensures none { IfOk result (λ found. IfNone found (sides_in (rule_over rule (meanings (M.means maker.old) parts.now)) ≤ at)) }
+    ensures some { let r = rule_over rule (meanings (M.means maker.old) parts.now) in
+        IfOk result (λ found. IfSome found (λ test.
+        asked (M.means maker.new) test ≡ side_at at r)) }
+    ensures place { let r = rule_over rule (meanings (M.means maker.old) parts.now) in
+        IfOk result (λ found. IfSome found (λ _. at < sides_in r)) }
+    ensures none { let r = rule_over rule (meanings (M.means maker.old) parts.now) in
+        IfOk result (λ found. IfNone found (sides_in r ≤ at)) }
 {
     let sides = schema_of(rule).sides;
     let at = at as usize;
@@ -124,17 +159,24 @@ pub fn side<M: Maker>(
     Ok(Some(test_of(maker, parts, sides[at])?))
 }
 
-/// The conclusion of a rule, in at most 16 rows. The parts are live rows of the rule's kinds.
+/// The conclusion of a rule. The parts are live rows of the rule's kinds, and the shifts of the
+/// substitutions among them are those that `then` takes. With the row of its node it adds at most
+/// `most_rows` rows.
+///
+/// # Errors
+/// Only where memory runs out; so for `wanted` and `side`.
 pub fn concluded<M: Maker>(
     maker: &mut M,
     rule: RuleName,
     parts: &[u64],
 ) -> Result<Claim, AllocError>
-    requires { IsSome (rule_over rule (meanings (M.means maker.old) parts.now)) }
-    ensures covered { 16 ≤ M.spare maker.old → IsOk result }
-    ensures spends { M.spare maker.old ≤ M.spare maker.new + 16 }
+    requires parts { IsSome (rule_over rule (meanings (M.means maker.old) parts.now)) }
+    requires shifts { ShiftsFit (meanings (M.means maker.old) parts.now) }
+    ensures covered { most_rows rule ≤ M.spare maker.old + 1 → IsOk result }
+    ensures spends { M.spare maker.old < M.spare maker.new + most_rows rule }
     ensures kept { Kept (M.means maker.old) (M.means maker.new) }
-    ensures claim { IfOk result (λ claim. claimed (M.means maker.new) claim ≡ conclusion_of (rule_over rule (meanings (M.means maker.old) parts.now))) }
+    ensures claim { let r = rule_over rule (meanings (M.means maker.old) parts.now) in
+        IfOk result (λ claim. claimed (M.means maker.new) claim ≡ conclusion_of r) }
 {
     claim_of(maker, parts, schema_of(rule).gives)
 }

@@ -1,42 +1,41 @@
-//! Programs that make the rows of a judgement from those of a rule's parts.
+//! Programs that make a rule's judgements and side conditions of its parts.
 
-use theory::{Form, Op};
+use crate::instruction::Instruction;
 
-/// A step of a program. A program is a judgement's rows in prefix notation, and is run from its end.
+/// What makes one thing.
+pub type Place = &'static [Instruction];
+
+/// A judgement each of whose places is made by instructions.
 #[derive(Clone, Copy, Debug)]
-pub enum Step {
-    /// The part of that number, from 0.
-    Part(u8),
-    /// The operator over the trees that follow.
-    Make(Op),
-    /// The empty context.
-    CtxNil,
+pub enum Program {
+    /// `ctx G`
+    Ctx(Place),
+    /// `G >> A`
+    Ty(Place, Place),
+    /// `G >> A = B`
+    TyEq(Place, Place, Place),
+    /// `G >> a : A`
+    Tm(Place, Place, Place),
+    /// `G >> a = b : A`
+    TmEq(Place, Place, Place, Place),
+    /// `d : H to G`, as H, d and G
+    Sb(Place, Place, Place),
 }
 
-/// A judgement of that form over the rows that the steps make, in order.
+/// A side condition each of whose places is made by instructions.
 #[derive(Clone, Copy, Debug)]
-pub struct Program {
-    pub form: Form,
-    pub steps: &'static [Step],
+pub enum Test {
+    /// The tree is a formula over the names of the context.
+    IsFormula(Place, Place),
+    /// The tree is a face over the names of the context.
+    IsFace(Place, Place),
+    /// The face is true at every point at which the faces of the context are.
+    Holds(Place, Place),
+    /// The two substitutions are alike over the context.
+    Alike(Place, Place, Place),
 }
 
-/// The form of a side condition.
-#[derive(Clone, Copy, Debug, PartialEq, Eq)]
-pub enum TestForm {
-    IsFormula,
-    IsFace,
-    Holds,
-    Alike,
-}
-
-/// A side condition of that form over the rows that the steps make, in order.
-#[derive(Clone, Copy, Debug)]
-pub struct Test {
-    pub form: TestForm,
-    pub steps: &'static [Step],
-}
-
-/// The programs of a rule: its wanted premises, its side conditions and its conclusion.
+/// The programs of a rule: its premises, its side conditions and its conclusion.
 #[derive(Clone, Copy, Debug)]
 pub struct Schema {
     pub wants: &'static [Program],

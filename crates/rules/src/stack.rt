@@ -4,7 +4,7 @@ ghost use Rattle.std.specs.Prelude.{◌≡◌, ◌<◌, ◌≤◌, ℕ, List, []
 
 use std::marker::Model;
 
-/// How many rows a stack holds at most, and how many steps a program has at most.
+/// How many rows a stack holds at most, and how many instructions make a place at most.
 pub const MOST: usize = 16;
 
 /// A stack of at most `MOST` rows. Contracts see the list of them, the last pushed first.
@@ -47,6 +47,15 @@ impl Stack {
         let row = self.cells[self.top];
         self.top += 1;
         row
+    }
+
+    /// Takes the first two rows off the stack.
+    pub fn pop_two(&mut self) -> (u64, u64)
+        requires { 2 ≤ length self.old }
+        ensures { self.old ≡ result.0 ∷ result.1 ∷ self.new }
+    {
+        let first = self.pop();
+        (first, self.pop())
     }
 
     /// The first rows of the stack.

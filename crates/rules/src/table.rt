@@ -1,92 +1,68 @@
-//! The programs of the rules.
+//! The programs of the rules, a line each, in families.
+//!
+//! A part is named by its letter in the rule and its place: `A3` is part 3, which the rule calls A
+//! or a. Part 0 is `G`, or `H` in a rule with a substitution d : H to G.
 
 ghost use Rattle.rules.specs.Schemas.{Means};
-ghost use Rattle.theory.specs.declared.rule.RuleName.TheVariants.{Contexts, Universe, Naturals};
 
-use crate::program::Step::{CtxNil, Make, Part};
-use crate::program::{Program, Schema};
-use theory::{ContextRule, Form, NatRule, Op, RuleName, UniverseRule};
+use crate::instruction::Instruction::{self, Make, Part, Shift};
+use crate::program::Schema;
+use contexts::context_schema;
+use instances::substitution_schema;
+use naturals::nat_schema;
+use pi::pi_schema;
+use theory::{Op, RuleName};
+use universe::universe_schema;
 
-fn context_schema(rule: ContextRule) -> Schema
-    ensures { Means (Contexts rule) result }
-{
-    match rule {
-        ContextRule::CtxNil => Schema {
-            wants: &[],
-            sides: &[],
-            gives: Program {
-                form: Form::Ctx,
-                steps: &[CtxNil],
-            },
-        },
-    }
-}
+mod contexts;
+mod instances;
+mod naturals;
+mod pi;
+mod universe;
 
-fn universe_schema(rule: UniverseRule) -> Schema
-    ensures { Means (Universe rule) result }
-{
-    match rule {
-        UniverseRule::TyU => Schema {
-            wants: &[Program {
-                form: Form::Tm,
-                steps: &[Part(0), Part(1), Make(Op::U)],
-            }],
-            sides: &[],
-            gives: Program {
-                form: Form::Ty,
-                steps: &[Part(0), Part(1)],
-            },
-        },
-    }
-}
+const G: Instruction = Part(0);
 
-fn nat_schema(rule: NatRule) -> Schema
-    ensures { Means (Naturals rule) result }
-{
-    match rule {
-        NatRule::NatU => Schema {
-            wants: &[Program {
-                form: Form::Ctx,
-                steps: &[Part(0)],
-            }],
-            sides: &[],
-            gives: Program {
-                form: Form::Tm,
-                steps: &[Part(0), Make(Op::Nat), Make(Op::U)],
-            },
-        },
-        NatRule::Zero => Schema {
-            wants: &[Program {
-                form: Form::Ctx,
-                steps: &[Part(0)],
-            }],
-            sides: &[],
-            gives: Program {
-                form: Form::Tm,
-                steps: &[Part(0), Make(Op::Zero), Make(Op::Nat)],
-            },
-        },
-        NatRule::Suc => Schema {
-            wants: &[Program {
-                form: Form::Tm,
-                steps: &[Part(0), Part(1), Make(Op::Nat)],
-            }],
-            sides: &[],
-            gives: Program {
-                form: Form::Tm,
-                steps: &[Part(0), Make(Op::Suc), Part(1), Make(Op::Nat)],
-            },
-        },
-    }
-}
+const H: Instruction = Part(0);
+
+const A1: Instruction = Part(1);
+
+const D1: Instruction = Part(1);
+
+const F1: Instruction = Part(1);
+
+const N1: Instruction = Part(1);
+
+const A2: Instruction = Part(2);
+
+const B2: Instruction = Part(2);
+
+const G2: Instruction = Part(2);
+
+const A3: Instruction = Part(3);
+
+const B3: Instruction = Part(3);
+
+const A4: Instruction = Part(4);
+
+const B4: Instruction = Part(4);
+
+const ID: Instruction = Shift(0);
+
+const UP: Instruction = Shift(1);
+
+const NAT: Instruction = Make(Op::Nat);
+
+const UNIVERSE: Instruction = Make(Op::U);
 
 /// The programs of a rule.
 pub fn schema_of(rule: RuleName) -> Schema
     ensures { Means rule result }
 {
     match rule {
-        RuleName::Contexts(name) => context_schema(name),
-        RuleName::Universe(name) => universe_schema(name),
-        RuleName::Naturals(name) => nat_schema(name),
+        RuleName::Contexts(rule) => context_schema(rule),
+        RuleName::Substitution(rule) => substitution_schema(rule),
+        RuleName::Universe(rule) => universe_schema(rule),
+        RuleName::Pi(rule) => pi_schema(rule),
+        RuleName::Naturals(rule) => nat_schema(rule),
     }
 }

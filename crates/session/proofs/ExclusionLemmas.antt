@@ -1,13 +1,14 @@
 -- Lemmas on answers that exclude each other.
 use Rattle.std.proofs.Common.{◌≡◌, ℕ, ◌++◌, List, length, refl, sym, ◌∙◌, ap, subst, Some, None, codes}
 use Rattle.std.specs.FinMap.{get}
-use Rattle.derivation.proofs.Unique.{derives_one, no_bad, bad_one}
+use Rattle.derivation.proofs.UniqueLaws.{derives_one, no_bad, bad_one}
 use Rattle.replay.specs.declared.judging.Verdict.{Verdict}
 use Rattle.replay.specs.declared.judging.Verdict.TheVariants.{Yes, No}
 use Rattle.replay.specs.Verdicts.{VerdictIs}
 use Rattle.edge.specs.Files.{Held, HoldsAt}
-use Rattle.session.specs.declared.answer.Answer.TheVariants as answers
-use Rattle.session.specs.Answers.{SeenFiles, text, status_of, OneVerdict, OneAnswer}
+use Rattle.edge.specs.Seen.{SeenFiles}
+use Rattle.session.specs.declared.outcome.Outcome.TheVariants as outcome
+use Rattle.session.specs.Answers.{plain_text, status_of, OneVerdict, OneAnswer}
 
 pub one_verdict : OneVerdict
 one_verdict bytes (Yes n k) (Yes m l) a b =
@@ -33,16 +34,16 @@ held_or_not path held old old' xs told told' at at' =
     cc
 
 pub one_answer : OneAnswer
-one_answer path held old new old' new' (answers.Judged v) (answers.Judged w) told told' n n' a b =
+one_answer path held old new old' new' (outcome.Judged v) (outcome.Judged w) told told' n n' a b =
     let same = verdicts path held old old' v w a.0 b.0 told told' a.1 b.1 a.2 b.2 in
-    (ap (λ x. text (answers.Judged x)) same, ap (λ x. status_of (answers.Judged x)) same)
-one_answer path held old new old' new' (answers.Judged v) (answers.MissingFile q) told told' n n' a b = absurd (held_or_not path held old old' a.0 told told' a.1 b.2)
-one_answer path held old new old' new' (answers.MissingFile p) (answers.Judged w) told told' n n' a b = absurd (held_or_not path held old' old b.0 told' told b.1 a.2)
-one_answer path held old new old' new' (answers.MissingFile p) (answers.MissingFile q) told told' n n' a b =
+    (ap (λ x. plain_text (outcome.Judged x)) same, ap (λ x. status_of (outcome.Judged x)) same)
+one_answer path held old new old' new' (outcome.Judged v) (outcome.MissingFile q) told told' n n' a b = absurd (held_or_not path held old old' a.0 told told' a.1 b.2)
+one_answer path held old new old' new' (outcome.MissingFile p) (outcome.Judged w) told told' n n' a b = absurd (held_or_not path held old' old b.0 told' told b.1 a.2)
+one_answer path held old new old' new' (outcome.MissingFile p) (outcome.MissingFile q) told told' n n' a b =
     (ap (λ x. codes "no: MissingFile in " ++ (x ++ codes "\n")) (a.0 ∙ sym b.0), refl)
-one_answer path held old new old' new' answers.ReadFault other told told' n n' a b = absurd (n refl)
-one_answer path held old new old' new' answers.Usage other told told' n n' a b = absurd a
-one_answer path held old new old' new' (answers.Judged v) answers.ReadFault told told' n n' a b = absurd (n' refl)
-one_answer path held old new old' new' (answers.Judged v) answers.Usage told told' n n' a b = absurd b
-one_answer path held old new old' new' (answers.MissingFile p) answers.ReadFault told told' n n' a b = absurd (n' refl)
-one_answer path held old new old' new' (answers.MissingFile p) answers.Usage told told' n n' a b = absurd b
+one_answer path held old new old' new' outcome.ReadFault other told told' n n' a b = absurd (n refl)
+one_answer path held old new old' new' outcome.Usage other told told' n n' a b = absurd a
+one_answer path held old new old' new' (outcome.Judged v) outcome.ReadFault told told' n n' a b = absurd (n' refl)
+one_answer path held old new old' new' (outcome.Judged v) outcome.Usage told told' n n' a b = absurd b
+one_answer path held old new old' new' (outcome.MissingFile p) outcome.ReadFault told told' n n' a b = absurd (n' refl)
+one_answer path held old new old' new' (outcome.MissingFile p) outcome.Usage told told' n n' a b = absurd b

@@ -1,3 +1,4 @@
 pub mod WriteLemmas
 pub mod WordLemmas
 pub mod ExclusionLemmas
+pub mod RunLemmas

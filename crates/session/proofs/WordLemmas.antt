@@ -21,16 +21,16 @@ plain_more (word ∷ words) (suc i) d lt plain next =
     let count : suc i + 1 ≡ suc (i + 1) = omega arith in
     rw count (plain.0, plain_more words i d (omega arith) plain.1 next)
 
--- the words in front of a place are positional, where they are plain
-pub plain_front : (words : List (String Global)) (i : ℕ) (d : String Global) → i < length words → AllPlain (take i words) → positional (texts words) ≡ option_map (λ ws. texts (take i words) ++ ws) (positional (string_bytes (get_or words i d) ∷ texts (drop 1 (drop i words))))
-plain_front [] i d lt plain = absurd (omega arith)
-plain_front (word ∷ words) zero d lt plain = as_they_are (positional (texts (word ∷ words)))
+-- the words before a place are positional, where they are plain
+pub plain_before : (words : List (String Global)) (i : ℕ) (d : String Global) → i < length words → AllPlain (take i words) → positional (texts words) ≡ option_map (λ ws. texts (take i words) ++ ws) (positional (string_bytes (get_or words i d) ∷ texts (drop 1 (drop i words))))
+plain_before [] i d lt plain = absurd (omega arith)
+plain_before (word ∷ words) zero d lt plain = as_they_are (positional (texts (word ∷ words)))
   where
     as_they_are : (p : Option (List (List ℕ))) → p ≡ option_map (λ ws. [] ++ ws) p
     as_they_are None = refl
     as_they_are (Some ws) = refl
-plain_front (word ∷ words) (suc i) d lt plain =
-    rw (plain.0.0, plain.0.1) (ap (option_map (λ ws. string_bytes word ∷ ws)) (plain_front words i d (omega arith) plain.1) ∙ both (positional (string_bytes (get_or words i d) ∷ texts (drop 1 (drop i words)))))
+plain_before (word ∷ words) (suc i) d lt plain =
+    rw (plain.0.0, plain.0.1) (ap (option_map (λ ws. string_bytes word ∷ ws)) (plain_before words i d (omega arith) plain.1) ∙ both (positional (string_bytes (get_or words i d) ∷ texts (drop 1 (drop i words)))))
   where
     both : (p : Option (List (List ℕ))) → option_map (λ ws. string_bytes word ∷ ws) (option_map (λ ws. texts (take i words) ++ ws) p) ≡ option_map (λ ws. string_bytes word ∷ (texts (take i words) ++ ws)) p
     both None = refl
@@ -42,18 +42,18 @@ plain_words [] plain = refl
 plain_words (word ∷ words) plain =
     rw (plain.0.0, plain.0.1) (ap (option_map (λ ws. string_bytes word ∷ ws)) (plain_words words plain.1))
 
--- a first `--` makes what is behind it positional
+-- a first `--` makes what is after it positional
 pub at_dashes : (words : List (String Global)) (i : ℕ) (d : String Global) → i < length words → AllPlain (take i words) → bytes_eq (string_bytes (get_or words i d)) (codes "--") ≡ true → positional (texts words) ≡ Some (texts (take i words) ++ texts (drop 1 (drop i words)))
 at_dashes words i d lt plain found =
-    plain_front words i d lt plain ∙ ap (option_map (λ ws. texts (take i words) ++ ws)) (ends (string_bytes (get_or words i d)) (texts (drop 1 (drop i words))) found)
+    plain_before words i d lt plain ∙ ap (option_map (λ ws. texts (take i words) ++ ws)) (ends (string_bytes (get_or words i d)) (texts (drop 1 (drop i words))) found)
   where
     ends : (word : List ℕ) (rest : List (List ℕ)) → bytes_eq word (codes "--") ≡ true → positional (word ∷ rest) ≡ Some rest
     ends word rest found = rw found refl
 
--- a dashed word in front of it is no positional word
+-- a dashed word before it is no positional word
 pub at_dashed : (words : List (String Global)) (i : ℕ) (d : String Global) → i < length words → AllPlain (take i words) → bytes_eq (string_bytes (get_or words i d)) (codes "--") ≡ false → is_dashed (string_bytes (get_or words i d)) ≡ true → positional (texts words) ≡ None
 at_dashed words i d lt plain other dashed =
-    plain_front words i d lt plain ∙ ap (option_map (λ ws. texts (take i words) ++ ws)) (refused (string_bytes (get_or words i d)) (texts (drop 1 (drop i words))) other dashed)
+    plain_before words i d lt plain ∙ ap (option_map (λ ws. texts (take i words) ++ ws)) (refused (string_bytes (get_or words i d)) (texts (drop 1 (drop i words))) other dashed)
   where
     refused : (word : List ℕ) (rest : List (List ℕ)) → bytes_eq word (codes "--") ≡ false → is_dashed word ≡ true → positional (word ∷ rest) ≡ None
     refused word rest other dashed = rw (other, dashed) refl
@@ -63,10 +63,10 @@ two [] y words = refl
 two (c ∷ x) y words = refl
 
 -- two words or more are no single file
-pub several : (front behind : List (String Global)) (p : Option (List (List ℕ))) → Some (texts front ++ texts behind) ≡ p → 1 < length front + length behind → None ≡ option_and_then only_one p
+pub several : (before after : List (String Global)) (p : Option (List (List ℕ))) → Some (texts before ++ texts after) ≡ p → 1 < length before + length after → None ≡ option_and_then only_one p
 several [] [] p is many = absurd (omega arith)
 several [] (a ∷ []) p is many = absurd (omega arith)
-several [] (a ∷ b ∷ behind) p is many = two (string_bytes a) (string_bytes b) (texts behind) ∙ ap (option_and_then only_one) is
+several [] (a ∷ b ∷ after) p is many = two (string_bytes a) (string_bytes b) (texts after) ∙ ap (option_and_then only_one) is
 several (a ∷ []) [] p is many = absurd (omega arith)
-several (a ∷ []) (b ∷ behind) p is many = two (string_bytes a) (string_bytes b) (texts behind) ∙ ap (option_and_then only_one) is
-several (a ∷ b ∷ front) behind p is many = two (string_bytes a) (string_bytes b) (texts front ++ texts behind) ∙ ap (option_and_then only_one) is
+several (a ∷ []) (b ∷ after) p is many = two (string_bytes a) (string_bytes b) (texts after) ∙ ap (option_and_then only_one) is
+several (a ∷ b ∷ before) after p is many = two (string_bytes a) (string_bytes b) (texts before ++ texts after) ∙ ap (option_and_then only_one) is

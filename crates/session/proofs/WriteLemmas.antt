@@ -1,12 +1,11 @@
 -- Lemmas on what a loop of writes leaves.
-use Rattle.std.proofs.Common.{◌≡◌, ℕ, ◌≤◌, List, ◌++◌, length, take, drop, None, Some, Option, ap, sym, ◌∙◌, arith, append_assoc}
+use Rattle.std.proofs.Common.{◌≡◌, ℕ, List, ◌++◌, length, take, drop, None, Some, Option, Result, Ok, Err, IsErr, ap, sym, ◌∙◌, append_assoc}
 use Rattle.std.proofs.lemmas.List.{take-append-drop}
 use Rattle.std.proofs.Math.Seq.{take-append_seam}
 use Rattle.std.specs.Io.KnownBytes.{Appends, Keeps}
-use Rattle.edge.specs.Counts.{Rose}
-
-pub rose_since : (a b c : ℕ) → a ≤ b → Rose b c → Rose a c
-rose_since a b c earlier rose = omega arith
+use Rattle.edge.specs.Seen.{SeenSink}
+use Rattle.session.specs.declared.top.WriteFault.{WriteFault}
+use Rattle.session.specs.Writes.{CutOff, Wrote}
 
 -- two pieces, one after the other, are one
 pub appends_both : (old mid new : Option (List ℕ)) (xs ys : List ℕ) → Appends old mid xs → Appends mid new ys → Appends old new (xs ++ ys)
@@ -28,9 +27,7 @@ stopped (Some a) (Some b) None text done rest parts first kept = absurd kept
 stopped (Some a) (Some b) (Some c) text done rest parts first kept =
     (length done, kept ∙ first ∙ ap (λ l. a ++ l) (sym (ap (take (length done)) parts ∙ take-append_seam done rest)))
 
--- what went out is a front of the text
-pub front_out : (old new : Option (List ℕ)) (text more rest : List ℕ) → text ≡ more ++ rest → Appends old new more → (n : ℕ) × Appends old new (take n text)
-front_out None new text more rest parts out = (0, tt)
-front_out (Some a) None text more rest parts out = absurd out
-front_out (Some a) (Some b) text more rest parts out =
-    (length more, out ∙ ap (λ l. a ++ l) (sym (ap (take (length more)) parts ∙ take-append_seam more rest)))
+-- the writing stops at the first write that fails
+pub cut_off : (text : List ℕ) (old new : SeenSink) (result : Result Unit WriteFault) → IsErr result → CutOff text old new → Wrote text old new result
+cut_off text old new (Ok x) err cut = cc
+cut_off text old new (Err fault) err cut = cut

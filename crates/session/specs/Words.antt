@@ -16,10 +16,13 @@ is_dashed [] = false
 is_dashed (c ∷ []) = false
 is_dashed (c ∷ x ∷ word) = c == 45
 
--- The positional words: all behind a word `--`, and those in front of it, none of which may be dashed.
+-- The positional words: all after a word `--`, and those before it, none of which may be dashed.
 abbrev pub positional : List (List ℕ) → Option (List (List ℕ))
 positional [] = Some []
-positional (word ∷ words) = if bytes_eq word (codes "--") then Some words else if is_dashed word then None else option_map (λ ws. word ∷ ws) (positional words)
+positional (word ∷ words) =
+    if bytes_eq word (codes "--") then Some words
+    else if is_dashed word then None
+    else option_map (λ ws. word ∷ ws) (positional words)
 
 -- the one word, which is not empty
 abbrev pub only_one : List (List ℕ) → Option (List ℕ)
@@ -29,7 +32,10 @@ only_one words = None
 -- the command of these words
 abbrev pub command : List (List ℕ) → Option Command
 command [] = None
-command (name ∷ words) = if bytes_eq name (codes "replay") then option_map Replay (option_and_then only_one (positional words)) else None
+command (name ∷ words) =
+    if bytes_eq name (codes "replay")
+    then option_map Replay (option_and_then only_one (positional words))
+    else None
 
 -- the bytes of words
 abbrev pub texts : List (String Global) → List (List ℕ)

@@ -1,11 +1,28 @@
 -- What the writing of a text leaves.
-use Rattle.std.specs.Prelude.{ℕ, List, take, Result, Ok, Err}
-use Rattle.std.specs.Io.KnownBytes.{Appends}
-use Rattle.edge.specs.Counts.{Rose}
+use Rattle.std.specs.Prelude.{◌≡◌, ◌<◌, ℕ, List, take, drop, Result, Ok, Err}
+use Rattle.std.specs.Io.KnownBytes.{Appends, Keeps}
+use Rattle.edge.specs.Counts.{one_more}
+use Rattle.edge.specs.Seen.{SeenSink}
 use Rattle.session.specs.declared.top.WriteFault.{WriteFault}
-use Rattle.session.specs.Answers.{SeenSink}
+use denote.Ref.{Bor}
 
--- All of the text went out, or a front of it and then a write failed.
+-- all of the text went out, and no write failed
+abbrev pub WrittenWhole : List ℕ → SeenSink → SeenSink → Type 0
+WrittenWhole text old new = Appends old.taken new.taken text × (new.faults ≡ old.faults)
+
+-- a prefix of the text went out, and one write failed
+abbrev pub CutOff : List ℕ → SeenSink → SeenSink → Type 0
+CutOff text old new =
+    (new.faults ≡ one_more old.faults) × (n : ℕ) × Appends old.taken new.taken (take n text)
+
+-- what the writing of a text does
 abbrev pub Wrote : List ℕ → SeenSink → SeenSink → Result Unit WriteFault → Type 0
-Wrote text old new (Ok x) = Appends old.taken new.taken text
-Wrote text old new (Err e) = Rose old.faults new.faults × (n : ℕ) × Appends old.taken new.taken (take n text)
+Wrote text old new (Ok x) = WrittenWhole text old new
+Wrote text old new (Err fault) = CutOff text old new
+
+-- what one write of a text does, which leaves some of it, or fails and takes nothing
+abbrev pub WroteSome : List ℕ → SeenSink → SeenSink → Result (Bor (List ℕ)) WriteFault → Type 0
+WroteSome text old new (Ok rest) =
+    (n : ℕ) × (0 < n) × (rest.now ≡ drop n text)
+    × Appends old.taken new.taken (take n text) × (new.faults ≡ old.faults)
+WroteSome text old new (Err fault) = (new.faults ≡ one_more old.faults) × Keeps old.taken new.taken

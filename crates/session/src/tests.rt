@@ -2,7 +2,7 @@
 use super::*;
 use edge::{MemFiles, MemSink, MemSource};
 use std::alloc::{AllocError, Global};
-use std::test::Fail;
+use std::process::Abort;
 
 /// A file whose rows all are right.
 const TWO: [&str; 13] = [
@@ -34,137 +34,175 @@ fn lines(alloc: Global, rows: &[&str]) -> Result<String, AllocError> {
     Ok(text)
 }
 
-/// What the words print, with which status, where `two.drv` has that text, where the listed fetches fail,
-/// and where so many bytes can be printed.
-fn printed(
-    alloc: Global,
-    words: &[&str],
-    text: &str,
-    failing: &[u64],
+/// The words of a text, in which spaces part them.
+fn words_of(alloc: Global, text: &str) -> Result<Vec<String>, AllocError> {
+    let mut words = Vec::new(alloc);
+    for word in text.split(' ') {
+        words.push(String::from_str(alloc, word)?)?;
+    }
+    Ok(words)
+}
+
+/// Where the words are run: `two.drv` has a text, and some fetches and writes fail.
+#[derive(Clone, Copy)]
+struct Place<'a> {
+    text: &'a str,
+    fetches: &'a [u64],
+    writes: &'a [u64],
     room: usize,
-) -> Result<(Status, MemSink), AllocError> {
-    let mut owned = Vec::new(alloc);
-    for word in words {
-        owned.push(String::from_str(alloc, word)?)?;
+}
+
+/// A place where nothing fails.
+fn sound(text: &str) -> Place<'_> {
+    Place {
+        text,
+        fetches: &[],
+        writes: &[],
+        room: 1000,
     }
-    let mut files = MemFiles::new(alloc, failing)?;
-    files.put("two.drv", text.as_bytes())?;
+}
+
+/// Runs the words there, and asserts what they print and how they end.
+fn assert_prints(
+    rt: &impl Abort,
+    alloc: Global,
+    words: &[String],
+    place: &Place<'_>,
+    (printed, status): (&str, Status),
+) -> Result<(), AllocError> {
+    let mut files = MemFiles::new(alloc, place.fetches)?;
+    files.put("two.drv", place.text.as_bytes())?;
     let mut input = MemSource::new(alloc, &[], &[])?;
-    let mut out = MemSink::new(alloc, room, &[])?;
-    let status = run(alloc, &owned, &mut files, &mut input, &mut out);
-    Ok((status, out))
-}
-
-/// What `replay two.drv` prints, with which status, where it has these rows.
-fn replayed(alloc: Global, rows: &[&str]) -> Result<(Status, MemSink), AllocError> {
-    let text = lines(alloc, rows)?;
-    printed(alloc, &["replay", "two.drv"], &text, &[], 1000)
-}
-
-#[test]
-fn replay_of_right_rows_says_yes(rt: HostRuntime) -> Result<(), Fail> {
-    let rows: [&[&str]; 2] = [&["rules 1"], &TWO];
-    let wants = ["yes: 1 rows, 0 roots\n", "yes: 13 rows, 2 roots\n"];
-    for (rows, want) in rows.into_iter().zip(wants) {
-        let (status, out) = replayed(rt.alloc(), rows)?;
-        assert_eq!(rt; out.as_slice(), want.as_bytes());
-        assert_eq!(rt; status, Status::Yes);
-    }
+    let mut out = MemSink::new(alloc, place.room, place.writes)?;
+    let ends = run(alloc, words, &mut files, &mut input, &mut out);
+    assert_eq!(rt; out.as_slice(), printed.as_bytes(), "wanted {printed}");
+    assert_eq!(rt; ends, status, "after {printed}");
     Ok(())
 }
 
+/// Asserts what `replay two.drv` prints where the file has these rows.
+fn assert_replays(
+    rt: &impl Abort,
+    alloc: Global,
+    rows: &[&str],
+    prints: (&str, Status),
+) -> Result<(), AllocError> {
+    let text = lines(alloc, rows)?;
+    let words = words_of(alloc, "replay two.drv")?;
+    assert_prints(rt, alloc, &words, &sound(text.as_str()), prints)
+}
+
 #[test]
-fn replay_names_the_first_bad_row(rt: HostRuntime) -> Result<(), Fail> {
+fn rows_are_judged(rt: HostRuntime) -> Result<(), AllocError> {
     let mut swapped = TWO;
     swapped.swap(3, 4);
     let mut before_its_premise = TWO;
     before_its_premise.swap(8, 9);
-    let rows: [(&[&str], &str); 4] = [
-        (&[], "no: row 0\n"),
-        (&["rules 9"], "no: row 0\n"),
-        (&swapped, "no: row 5\n"),
-        (&before_its_premise, "no: row 8\n"),
+    let rows: [(&[&str], (&str, Status)); 6] = [
+        (&["rules 1"], ("yes: 1 rows, 0 roots\n", Status::Yes)),
+        (&TWO, ("yes: 13 rows, 2 roots\n", Status::Yes)),
+        (&[], ("no: row 0\n", Status::No)),
+        (&["rules 9"], ("no: row 0\n", Status::No)),
+        (&swapped, ("no: row 5\n", Status::No)),
+        (&before_its_premise, ("no: row 8\n", Status::No)),
     ];
-    for (rows, want) in rows {
-        let (status, out) = replayed(rt.alloc(), rows)?;
-        assert_eq!(rt; out.as_slice(), want.as_bytes());
-        assert_eq!(rt; status, Status::No);
+    for (rows, prints) in rows {
+        assert_replays(&rt, rt.alloc(), rows, prints)?;
     }
     for row in ["n suc 1 7 11", "n suc 1 07 8", "n suc 1 4 8"] {
         let mut rows = TWO;
         rows[9] = row;
-        let (status, out) = replayed(rt.alloc(), &rows)?;
-        assert_eq!(rt; out.as_slice(), b"no: row 9\n".as_slice(), "at {row}");
-        assert_eq!(rt; status, Status::No, "at {row}");
+        assert_replays(&rt, rt.alloc(), &rows, ("no: row 9\n", Status::No))?;
     }
     Ok(())
 }
 
 #[test]
-fn replay_wants_the_last_newline(rt: HostRuntime) -> Result<(), Fail> {
+fn replay_wants_the_last_newline(rt: HostRuntime) -> Result<(), AllocError> {
     let mut text = lines(rt.alloc(), &TWO)?;
     let _newline = text.pop();
-    let (status, out) = printed(rt.alloc(), &["replay", "two.drv"], &text, &[], 1000)?;
-    assert_eq!(rt; out.as_slice(), b"no: row 12\n".as_slice());
-    assert_eq!(rt; status, Status::No);
-    Ok(())
+    let words = words_of(rt.alloc(), "replay two.drv")?;
+    let prints = ("no: row 12\n", Status::No);
+    assert_prints(&rt, rt.alloc(), &words, &sound(text.as_str()), prints)
 }
 
+// A write that fails is not tried again, even where there is room.
 #[test]
-fn files_and_output_fail(rt: HostRuntime) -> Result<(), Fail> {
-    let cases: [(&str, &[u64], usize, &str, Status); 4] = [
-        ("a.drv", &[], 1000, "no: MissingFile in a.drv\n", Status::No),
-        ("a.drv", &[], 5, "no: M", Status::Fault),
-        ("two.drv", &[0], 1000, "fault: ReadFault\n", Status::Fault),
-        ("two.drv", &[], 5, "no: r", Status::Fault),
+fn files_and_output_fail(rt: HostRuntime) -> Result<(), AllocError> {
+    let missing = "no: MissingFile in a.drv\n";
+    let cases: [(&str, &[u64], &[u64], usize, (&str, Status)); 6] = [
+        ("replay a.drv", &[], &[], 1000, (missing, Status::No)),
+        ("replay a.drv", &[], &[], 5, ("no: M", Status::Fault)),
+        ("replay a.drv", &[], &[0], 1000, ("", Status::Fault)),
+        (
+            "replay two.drv",
+            &[0],
+            &[],
+            1000,
+            ("fault: ReadFault\n", Status::Fault),
+        ),
+        ("replay two.drv", &[], &[], 5, ("no: r", Status::Fault)),
+        ("help", &[], &[0], 1000, ("", Status::Fault)),
     ];
-    for (path, failing, room, want, ends) in cases {
-        let (status, out) = printed(rt.alloc(), &["replay", path], "", failing, room)?;
-        assert_eq!(rt; out.as_slice(), want.as_bytes());
-        assert_eq!(rt; status, ends, "at {want}");
+    for (text, fetches, writes, room, prints) in cases {
+        let place = Place {
+            text: "",
+            fetches,
+            writes,
+            room,
+        };
+        assert_prints(
+            &rt,
+            rt.alloc(),
+            &words_of(rt.alloc(), text)?,
+            &place,
+            prints,
+        )?;
     }
     Ok(())
 }
 
 // The first fetch fails, so that a command that fetches would say so.
 #[test]
-fn other_words_are_no_command(rt: HostRuntime) -> Result<(), Fail> {
-    let usages: [&[&str]; 8] = [
-        &[],
-        &["replay"],
-        &["replay", ""],
-        &["replay", "two.drv", "b"],
-        &["replay", "--of"],
-        &["replay", "two.drv", "-x"],
-        &["--", "replay", "two.drv"],
-        &["check", "two"],
-    ];
-    for words in usages {
-        let (status, out) = printed(rt.alloc(), words, "", &[0], 1000)?;
-        assert_eq!(rt; out.as_slice(), USAGE.as_bytes());
-        assert_eq!(rt; status, Status::Usage);
+fn other_words_are_no_command(rt: HostRuntime) -> Result<(), AllocError> {
+    let place = Place {
+        fetches: &[0],
+        ..sound("")
+    };
+    assert_prints(&rt, rt.alloc(), &[], &place, (USAGE, Status::Usage))?;
+    for text in [
+        "",
+        "replay",
+        "replay ",
+        "replay two.drv b",
+        "replay --of",
+        "replay two.drv -x",
+        "-- replay two.drv",
+        "check two",
+        "check two --turns 5",
+        "normal two one two three four five",
+    ] {
+        let words = words_of(rt.alloc(), text)?;
+        assert_prints(&rt, rt.alloc(), &words, &place, (USAGE, Status::Usage))?;
     }
     Ok(())
 }
 
 #[test]
-fn two_dashes_make_every_later_word_positional(rt: HostRuntime) -> Result<(), Fail> {
-    let cases: [(&[&str], &str); 4] = [
-        (&["replay", "--", "-x"], "no: MissingFile in -x\n"),
-        (&["replay", "--", "--"], "no: MissingFile in --\n"),
-        (&["replay", "-", "--"], "no: MissingFile in -\n"),
-        (&["replay", "a.drv"], "no: MissingFile in a.drv\n"),
-    ];
-    for (words, want) in cases {
-        let (status, out) = printed(rt.alloc(), words, "", &[], 1000)?;
-        assert_eq!(rt; out.as_slice(), want.as_bytes());
-        assert_eq!(rt; status, Status::No, "at {want}");
+fn two_dashes_make_every_later_word_positional(rt: HostRuntime) -> Result<(), AllocError> {
+    for (text, printed) in [
+        ("replay -- -x", "no: MissingFile in -x\n"),
+        ("replay -- --", "no: MissingFile in --\n"),
+        ("replay - --", "no: MissingFile in -\n"),
+        ("replay a.drv", "no: MissingFile in a.drv\n"),
+    ] {
+        let words = words_of(rt.alloc(), text)?;
+        assert_prints(&rt, rt.alloc(), &words, &sound(""), (printed, Status::No))?;
     }
     Ok(())
 }
 
 #[test]
-fn the_law_on_answers_is_no_code(_rt: HostRuntime) -> Result<(), Fail> {
+fn the_law_on_answers_is_no_code(_rt: HostRuntime) {
     answers_exclude_each_other();
-    Ok(())
 }

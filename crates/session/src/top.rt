@@ -1,11 +1,11 @@
-//! The top call: it does what the words ask for, and prints the answer.
-
-ghost use Rattle.std.specs.Prelude.{◌≡◌, ◌≢◌, None, IfOk};
-ghost use Rattle.session.specs.Answers.{seen_files, seen_sink, MayAnswer, MayStore, Printed, Answered};
+// The top call: it does what the words ask for, and prints how that ended.
+ghost use Rattle.std.specs.Prelude.{◌≡◌, ◌≢◌, [], IfOk};
+ghost use Rattle.edge.specs.Seen.{seen_files, seen_source, seen_sink};
+ghost use Rattle.session.specs.Answers.{plain_text, status_of, MayAnswer, MayStore, Printed, Ran, world};
 ghost use Rattle.session.specs.Words.{command, texts};
-ghost use Rattle.session.specs.Writes.{Wrote};
+ghost use Rattle.session.specs.Writes.{Wrote, WroteSome};
 
-use crate::answer::{Answer, Status};
+use crate::outcome::{Outcome, Status};
 use crate::replay_command::replay;
 use crate::words::{Command, command_of};
 use edge::{Files, Sink, Source, Took};
@@ -15,54 +15,65 @@ use std::alloc::{AllocError, Global};
 #[derive(Drop)]
 struct WriteFault;
 
-/// Writes the text, in as many pieces as the sink takes.
+/// Writes some of the text, and gives what is left of it.
+fn write_some<'a, O: Sink>(out: &mut O, text: &'a [u8]) -> Result<&'a [u8], WriteFault>
+    requires { text.now ≢ [] }
+    ensures { let see = seen_sink O.taken O.faults in
+        WroteSome text.now (see out.old) (see out.new) result }
+{
+    match out.write(text) {
+        Took::Bytes(count) => Ok(text.split_at(count).1),
+        Took::Failed => Err(WriteFault),
+    }
+}
+
+/// Writes the text, in as many pieces as the sink takes, up to the first write that fails.
 fn write_text<O: Sink>(out: &mut O, text: &[u8]) -> Result<(), WriteFault>
-    ensures { let seen = seen_sink O.taken O.faults in
-        Wrote text.now (seen out.old) (seen out.new) result }
+    ensures { let see = seen_sink O.taken O.faults in
+        Wrote text.now (see out.old) (see out.new) result }
 {
     let mut rest = text;
     while !rest.is_empty() {
-        match out.write(rest) {
-            Took::Failed => return Err(WriteFault),
-            Took::Bytes(0) => return Err(WriteFault),
-            Took::Bytes(count) => rest = rest.split_at(count).1,
-        }
+        rest = write_some(out, rest)?;
     }
     Ok(())
 }
 
-/// Prints the answer, and gives the status to end with.
-fn print<O: Sink>(alloc: Global, answer: &Answer, out: &mut O) -> Status
-    ensures printed { let seen = seen_sink O.taken O.faults in
-        result ≢ Status.Memory → Printed answer.now (seen out.old) (seen out.new) result }
+/// Prints the outcome, and gives the status to end with.
+fn print<O: Sink>(alloc: Global, outcome: &Outcome, out: &mut O) -> Status
+    ensures printed { let see = seen_sink O.taken O.faults in
+        result ≢ Status.Memory → Printed (plain_text outcome.now) (status_of outcome.now)
+        (see out.old) (see out.new) result }
     ensures memory { result ≡ Status.Memory → out.new ≡ out.old }
 {
-    match answer.text(alloc) {
+    match outcome.text(alloc) {
         Ok(text) => match write_text(out, text.as_bytes()) {
-            Ok(()) => answer.status(),
+            Ok(()) => outcome.status(),
             Err(_) => Status::Fault,
         },
         Err(_) => Status::Memory,
     }
 }
 
-/// Does what the words ask for, but for printing. The only error is want of memory.
-fn answer_of<F: Files>(alloc: Global, words: &[String], files: &mut F) -> Result<Answer, AllocError>
-    ensures answer { let seen = seen_files F.held F.misses F.fetch_faults F.store_faults in
-        IfOk result (λ answer.
-        MayAnswer (command (texts words.now)) (seen files.old) (seen files.new) answer) }
-    ensures stored { let seen = seen_files F.held F.misses F.fetch_faults F.store_faults in
-        MayStore (command (texts words.now)) (seen files.old) (seen files.new) }
-    ensures untouched { command (texts words.now) ≡ None → files.new ≡ files.old }
+/// Does what the words ask for, but for printing. The only error is out of memory.
+fn outcome_of<F: Files>(
+    alloc: Global,
+    words: &[String],
+    files: &mut F,
+) -> Result<Outcome, AllocError>
+    ensures answer { let see = seen_files F.held F.counts in
+        IfOk result (MayAnswer (command (texts words.now)) (see files.old) (see files.new)) }
+    ensures stored { MayStore (seen_files F.held F.counts) (command (texts words.now))
+        files.old files.new }
 {
     match command_of(words) {
         Some(Command::Replay(path)) => Ok(replay(alloc, path, files)?),
-        None => Ok(Answer::Usage),
+        None => Ok(Outcome::Usage),
     }
 }
 
 /// Does what the words ask for, where they are those after the program's name, and gives the status to
-/// end with. Want of memory may come at any time, and then nothing is printed.
+/// end with. It may be out of memory at any time.
 pub fn run<F: Files, I: Source, O: Sink>(
     alloc: Global,
     words: &[String],
@@ -70,18 +81,12 @@ pub fn run<F: Files, I: Source, O: Sink>(
     input: &mut I,
     out: &mut O,
 ) -> Status
-    ensures answer { let seen = seen_files F.held F.misses F.fetch_faults F.store_faults in
-        let seen_out = seen_sink O.taken O.faults in
-        result ≢ Status.Memory → Answered (command (texts words.now))
-        (seen files.old) (seen files.new) (seen_out out.old) (seen_out out.new) result }
-    ensures memory { result ≡ Status.Memory → out.new ≡ out.old }
-    ensures stored { let seen = seen_files F.held F.misses F.fetch_faults F.store_faults in
-        MayStore (command (texts words.now)) (seen files.old) (seen files.new) }
-    ensures untouched { command (texts words.now) ≡ None → files.new ≡ files.old }
-    ensures unread { input.new ≡ input.old }
+    ensures { Ran (seen_files F.held F.counts) (seen_source I.left I.faults)
+        (seen_sink O.taken O.faults) (command (texts words.now))
+        (world files.old input.old out.old) (world files.new input.new out.new) result }
 {
-    match answer_of(alloc, words, files) {
-        Ok(answer) => print(alloc, &answer, out),
+    match outcome_of(alloc, words, files) {
+        Ok(outcome) => print(alloc, &outcome, out),
         Err(_) => Status::Memory,
     }
 }

@@ -1,5 +1,4 @@
-//! The words of the command line.
-
+// The words of the command line.
 ghost use Rattle.std.specs.Prelude.{◌≡◌, ◌++◌};
 ghost use Rattle.std.specs.Option.{option_map, option_and_then};
 ghost use Rattle.session.specs.Words.{command, command_read, texts, positional, is_dashed, only_one};
@@ -21,16 +20,16 @@ fn is_dashed(word: &str) -> bool
     }
 }
 
-/// The words in front of the first `--` and those behind it, where no word in front is dashed. They are
-/// the positional ones.
+/// The words before the first `--` and those after it, where none before it is dashed. They are the
+/// positional ones.
 fn positional(words: &[String]) -> Option<(&[String], &[String])>
     ensures { option_map (λ parts. texts parts.0.now ++ texts parts.1.now) result
         ≡ positional (texts words.now) }
 {
     for (i, word) in words.iter().enumerate() {
         if word.as_str() == "--" {
-            let (front, behind) = words.split_at(i);
-            return Some((front, behind.split_at(1).1));
+            let (before, rest) = words.split_at(i);
+            return Some((before, rest.split_at(1).1));
         }
         if is_dashed(word) {
             return None;
@@ -44,8 +43,8 @@ fn only_file(words: &[String]) -> Option<&str>
     ensures { option_map (λ file. file.now) result
         ≡ option_and_then only_one (positional (texts words.now)) }
 {
-    let (front, behind) = positional(words)?;
-    let file = match (front, behind) {
+    let (before, after) = positional(words)?;
+    let file = match (before, after) {
         ([file], []) => file,
         ([], [file]) => file,
         ([], []) => return None,

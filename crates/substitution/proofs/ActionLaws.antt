@@ -1,7 +1,7 @@
 -- Substitutions that do the same to every tree.
 use Rattle.std.proofs.Common.{◌≡◌, ℕ, zero, suc, ◌+◌, refl, sym, ◌∙◌, ap, zero-add, arith}
-use Rattle.theory.specs.Trees.{Tree, Var, Subst, apply_under, apply, shift_by, push, then, id, up}
-use Rattle.theory.specs.Judgements.{trees}
+use Rattle.trees.specs.Trees.{Tree, Var, Subst, apply_under, apply, shift_by, push, then, id, up}
+use Rattle.trees.specs.Judgements.{trees}
 use Rattle.substitution.specs.Forms.{lift, lift_by, drop}
 use Rattle.substitution.specs.Action.{look, ActAlike}
 use Rattle.substitution.proofs.ThenLaws.{act_alike-from_look, apply-then, apply-id}

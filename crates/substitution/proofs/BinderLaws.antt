@@ -1,8 +1,8 @@
 -- The laws of lifting, weakening and dropping, and of a tree for the innermost index.
 use Rattle.std.proofs.Common.{◌≡◌, ℕ, zero, suc, ◌+◌, refl, sym, ◌∙◌, ap, add-zero, add-suc, arith}
 use Rattle.std.proofs.Math.Path.{fun_ext}
-use Rattle.theory.specs.Trees.{Tree, Var, Subst, raise, apply_under, apply, shift_by, push, then, id, up}
-use Rattle.theory.specs.Judgements.{trees}
+use Rattle.trees.specs.Trees.{Tree, Var, Subst, raise, apply_under, apply, shift_by, push, then, id, up}
+use Rattle.trees.specs.Judgements.{trees}
 use Rattle.substitution.specs.Forms.{at, weaken, lift, lift_by, drop}
 use Rattle.substitution.specs.Action.{look}
 use Rattle.substitution.proofs.Maps.{lifted, lifted_by, replace, raise-one, apply_under-replace}

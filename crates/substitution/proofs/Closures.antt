@@ -1,11 +1,12 @@
 -- The laws that open a tree under delayed substitutions.
 use Rattle.std.proofs.Common.{◌≡◌, ℕ, zero, suc, ◌+◌, ◌-◌, ◌<◌, ◌≤◌, List, [], ◌∷◌, ◌++◌, Some, option_map, map, refl, sym, ◌∙◌, ap, ap₂, add-zero, add_assoc, arith}
-use Rattle.theory.specs.declared.op.Op.{Op}
-use Rattle.theory.specs.Operators.{binds_of}
-use Rattle.theory.specs.Trees.{Tree, Trees, Var, Make, NoTrees, More, Subst, raise, entry, entry_under, apply, apply_under, apply_kids, shift_by, push, then, id}
-use Rattle.theory.specs.Judgements.{trees}
+use Rattle.trees.specs.declared.op.Op.{Op}
+use Rattle.trees.specs.Operators.{binds_of}
+use Rattle.trees.specs.Trees.{Tree, Trees, Var, Make, NoTrees, More, Subst, raise, entry, entry_under, apply, apply_under, apply_kids, shift_by, push, then, id}
+use Rattle.trees.specs.Judgements.{trees}
 use Rattle.substitution.specs.Forms.{lift_by}
-use Rattle.substitution.specs.Action.{look, ActAlike, count_of}
+use Rattle.trees.specs.Trees.{count_of}
+use Rattle.substitution.specs.Action.{look, ActAlike}
 use Rattle.substitution.specs.Shifts.{then_all}
 use Rattle.substitution.specs.Delayed.{Delayed, at_depth, here, closed, deeper, closed_kids, kid_at}
 use Rattle.substitution.proofs.ThenLaws.{apply-id, apply-then, apply-shift_by}

@@ -1,9 +1,9 @@
 -- Renaming and substitution along functions of the index, and that raising and applying are cases of them.
 use Rattle.std.proofs.Common.{◌≡◌, ℕ, zero, suc, ◌+◌, refl, sym, ◌∙◌, ap, ap₂, add-zero, add-suc, arith}
 use Rattle.std.proofs.Math.Path.{fun_ext}
-use Rattle.theory.specs.declared.op.Op.{Op}
-use Rattle.theory.specs.Operators.{binds_of}
-use Rattle.theory.specs.Trees.{Tree, Trees, Var, Make, NoTrees, More, Subst, raise_index, raise, raise_kids, entry_under, apply_under, apply_kids}
+use Rattle.trees.specs.declared.op.Op.{Op}
+use Rattle.trees.specs.Operators.{binds_of}
+use Rattle.trees.specs.Trees.{Tree, Trees, Var, Make, NoTrees, More, Subst, raise_index, raise, raise_kids, entry_under, apply_under, apply_kids}
 use Rattle.substitution.specs.Action.{look}
 
 -- a renaming under one binder, whose index stays

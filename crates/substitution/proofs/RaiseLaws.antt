@@ -1,8 +1,9 @@
 -- Raising, which is weakening under binders, and the index that a binder keeps.
 use Rattle.std.proofs.Common.{◌≡◌, ℕ, zero, suc, ◌+◌, ◌<◌, ◌≤◌, ◌⊎◌, refl, sym, ◌∙◌, ap, ap₂, inl, inr, add-zero, add-suc, zero-add, arith}
 use Rattle.std.proofs.Math.Path.{fun_ext}
-use Rattle.theory.specs.Trees.{Tree, Trees, Var, NoTrees, More, Subst, raise, raise_index, entry, entry_under, apply_under, shift_by}
-use Rattle.substitution.specs.Action.{look, count_of}
+use Rattle.trees.specs.Trees.{Tree, Trees, Var, NoTrees, More, Subst, raise, raise_index, entry, entry_under, apply_under, shift_by}
+use Rattle.trees.specs.Trees.{count_of}
+use Rattle.substitution.specs.Action.{look}
 use Rattle.substitution.proofs.Maps.{under, rename, lifted_by, lifted_by-under, lifted_by-add, lifted_by-vars, replace, rename-rename, rename-same, replace-rename, rename-replace, replace-vars, rename-lifted_by, raise-rename, raise_index-add, entry_under-lifted_by, apply_under-replace}
 
 pub raise-zero : (t : Tree) (from : ℕ) → raise t from 0 ≡ t

@@ -1,9 +1,10 @@
 -- What shifts and indices grow to.
 use Rattle.std.proofs.Common.{◌≡◌, ℕ, zero, suc, ◌+◌, ◌-◌, ◌*◌, ◌^◌, ◌<◌, ◌≤◌, List, [], ◌∷◌, length, arith}
 use Rattle.std.specs.List.{All}
-use Rattle.theory.specs.Trees.{Trees, NoTrees, More, Subst, without, then_from, then}
-use Rattle.substitution.specs.Action.{count_of}
-use Rattle.substitution.specs.Shifts.{greatest_shift, then_all}
+use Rattle.trees.specs.Trees.{Trees, NoTrees, More, Subst, without, then_from, then}
+use Rattle.trees.specs.Trees.{count_of}
+use Rattle.trees.specs.Trees.{greatest_shift}
+use Rattle.substitution.specs.Shifts.{then_all}
 
 shift-without : (n : ℕ) (p : Trees) (s : ℕ) → (without n p s).shift ≡ s + (n - count_of p)
 shift-without n NoTrees s = omega arith

@@ -1,7 +1,7 @@
 -- The laws of substitutions as data, a shift with a list of pushed trees.
 use Rattle.std.proofs.Common.{◌≡◌, ℕ, zero, suc, ◌+◌, refl, sym, ◌∙◌, ap, ap₂, add-zero, add-suc, zero-add, arith}
 use Rattle.std.proofs.Math.Path.{fun_ext}
-use Rattle.theory.specs.Trees.{Tree, Trees, Var, NoTrees, More, Subst, raise, entry, apply, shift_by, push, without, then_from, then, id, up}
+use Rattle.trees.specs.Trees.{Tree, Trees, Var, NoTrees, More, Subst, raise, entry, apply, shift_by, push, without, then_from, then, id, up}
 use Rattle.substitution.specs.Action.{look, ActAlike}
 use Rattle.substitution.proofs.Maps.{replace, replace-replace, replace-vars, replace-same, raise-rename, apply_under-replace}
 

@@ -1,8 +1,8 @@
 -- Trees under substitutions that are not yet applied.
 use Rattle.std.specs.Prelude.{ℕ, zero, suc, ◌+◌, List, [], ◌∷◌, Option, Some, None}
-use Rattle.theory.specs.declared.op.Op.{Op}
-use Rattle.theory.specs.Operators.{binds_of}
-use Rattle.theory.specs.Trees.{Tree, Trees, NoTrees, More, Subst, apply_under}
+use Rattle.trees.specs.declared.op.Op.{Op}
+use Rattle.trees.specs.Operators.{binds_of}
+use Rattle.trees.specs.Trees.{Tree, Trees, NoTrees, More, Subst, apply_under}
 
 -- a substitution under so many binders
 pub record Delayed : Type 0 where

@@ -1,6 +1,6 @@
 -- The forms of substitution that rules write, in every language of trees and substitutions.
 use Rattle.std.specs.Prelude.{ℕ, zero, suc}
-use Rattle.theory.specs.Language.{Language}
+use Rattle.trees.specs.Language.{Language}
 
 module _ (L : Language) where
   open L use {tree, subst, var, apply, shift_by, push, then}

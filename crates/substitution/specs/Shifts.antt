@@ -1,10 +1,6 @@
 -- How large shifts grow.
-use Rattle.std.specs.Prelude.{ℕ, ◌^◌, List, [], ◌∷◌}
-use Rattle.theory.specs.Trees.{Subst, then, id}
-
--- the greatest shift of a substitution that `then` takes: 4,611,686,018,427,387,904
-abbrev pub greatest_shift : ℕ
-greatest_shift = 2 ^ 62
+use Rattle.std.specs.Prelude.{List, [], ◌∷◌}
+use Rattle.trees.specs.Trees.{Subst, then, id}
 
 -- these, one after another
 abbrev pub then_all : List Subst → Subst

@@ -6,13 +6,15 @@
 
 ghost use Rattle.std.specs.Prelude.{◌≡◌, ℕ, suc, ◌+◌, ◌-◌, ◌*◌, ◌^◌, ◌<◌, ◌≤◌, List, [], ◌∷◌, ◌++◌, length, map, Some, option_map};
 ghost use Rattle.std.specs.List.{All};
-ghost use Rattle.theory.specs.declared.op.Op.{Op};
-ghost use Rattle.theory.specs.Operators.{binds_of};
-ghost use Rattle.theory.specs.Trees.{Tree, Trees, Subst, Var, Make, raise, apply_under, apply, shift_by, push, then, id, up};
-ghost use Rattle.theory.specs.Judgements.{trees};
+ghost use Rattle.trees.specs.declared.op.Op.{Op};
+ghost use Rattle.trees.specs.Operators.{binds_of};
+ghost use Rattle.trees.specs.Trees.{Tree, Trees, Subst, Var, Make, raise, apply_under, apply, shift_by, push, then, id, up};
+ghost use Rattle.trees.specs.Judgements.{trees};
 ghost use Rattle.substitution.specs.Forms.{at, weaken, lift, lift_by, drop};
-ghost use Rattle.substitution.specs.Action.{look, ActAlike, count_of};
-ghost use Rattle.substitution.specs.Shifts.{greatest_shift, then_all};
+ghost use Rattle.trees.specs.Trees.{count_of};
+ghost use Rattle.substitution.specs.Action.{look, ActAlike};
+ghost use Rattle.trees.specs.Trees.{greatest_shift};
+ghost use Rattle.substitution.specs.Shifts.{then_all};
 ghost use Rattle.substitution.specs.Delayed.{Delayed, at_depth, here, closed, deeper, closed_kids, kid_at};
 
 /// A substitution does to a tree what it does to the tree's indices, and one after another is one.

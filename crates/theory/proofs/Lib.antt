@@ -1,3 +1,2 @@
-pub mod Tables
-pub mod Meanings
+pub mod LookupLaws
 pub mod Names

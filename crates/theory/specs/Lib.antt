@@ -1,7 +1,2 @@
-pub mod Operators
+pub mod OperatorNames
 pub mod RuleNames
-pub mod Trees
-pub mod Language
-pub mod Judgements
-pub mod Things
-pub mod Claims

@@ -1,19 +1,25 @@
-//! The language of the theory: its operators and the names of its rules.
+//! The rules and operators by name, and what files say of each.
 //!
-//! Trees, substitutions, contexts and judgements are definitions of `specs/`, which the contracts of the crates above
-//! speak of; no value of a program is a tree.
+//! The language itself stands in `trees`, which this crate hands on.
+//!
+//! ```text
+//! rule_of(b"suc", 1) == Some(RuleName::Naturals(NatRule::Suc))
+//! part_kinds(RuleName::Naturals(NatRule::Suc)) == [PartKind::Context, PartKind::Term]
+//! op_of(b"succ", 1) == None
+//! ```
 #![tactic(auto)]
 
-mod claim;
-mod op;
+mod operators;
 mod rule;
+mod signatures;
 
-pub use claim::{Claim, ClaimRows, Form};
-pub use op::{Op, binds, kid_count, op_name, op_of};
+pub use operators::op_of;
 pub use rule::{
-    ContextRule, NatRule, PartKind, RuleName, UniverseRule, count_parts, count_premises, part_kind,
-    part_kinds, rule_name, rule_of,
+    ContextRule, NatRule, PiRule, RuleName, SubstitutionRule, UniverseRule, count_parts,
+    count_premises, part_kind, part_kinds, rule_name, rule_of,
 };
+pub use signatures::{Signature, signature_of};
+pub use trees::{Claim, ClaimRows, JudgementForm, Op, PartKind, binds, kid_count, op_name};
 
 #[cfg(test)]
 mod tests;

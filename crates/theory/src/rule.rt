@@ -1,28 +1,43 @@
-//! The names of the rules, and how many parts and premises each has.
+//! The rules, and how a name finds one.
 
 ghost use Rattle.std.specs.Prelude.{◌≡◌, ◌<◌, ◌≤◌, IfSome, IfNone, length, slice_get, Some};
-ghost use Rattle.std.specs.List.{All};
 ghost use Rattle.theory.specs.RuleNames.{kinds_of, premises_of, name_of, first_version, IsRule};
 ghost use Rattle.theory.specs.declared.rule.RuleName.{RuleName};
 
-/// What a part of a rule is.
-#[derive(Clone, Copy, Debug, PartialEq, Eq)]
-pub enum PartKind {
-    Context,
-    Subst,
-    Term,
-}
+use crate::signatures::signature_of;
+use trees::PartKind;
 
 /// The rules that conclude a context or a substitution.
 #[derive(Clone, Copy, Debug, PartialEq, Eq)]
 pub enum ContextRule {
     CtxNil,
+    CtxVar,
+    SubId,
+    SubWk,
+    SubVar,
+}
+
+/// The rules that apply a substitution, and that of the variable.
+#[derive(Clone, Copy, Debug, PartialEq, Eq)]
+pub enum SubstitutionRule {
+    TySub,
+    TmSub,
+    TmVar,
 }
 
 /// The rules of the universe.
 #[derive(Clone, Copy, Debug, PartialEq, Eq)]
 pub enum UniverseRule {
     TyU,
+}
+
+/// The rules of functions.
+#[derive(Clone, Copy, Debug, PartialEq, Eq)]
+pub enum PiRule {
+    PiTy,
+    PiU,
+    Lam,
+    App,
 }
 
 /// The rules of the natural numbers.
@@ -37,30 +52,37 @@ pub enum NatRule {
 #[derive(Clone, Copy, Debug, PartialEq, Eq)]
 pub enum RuleName {
     Contexts(ContextRule),
+    Substitution(SubstitutionRule),
     Universe(UniverseRule),
+    Pi(PiRule),
     Naturals(NatRule),
 }
 
-/// Every rule, in the order of the table.
+/// Every rule, in the order of their names.
 static RULES: &[RuleName] = &[
+    RuleName::Pi(PiRule::App),
     RuleName::Contexts(ContextRule::CtxNil),
-    RuleName::Universe(UniverseRule::TyU),
+    RuleName::Contexts(ContextRule::CtxVar),
+    RuleName::Pi(PiRule::Lam),
     RuleName::Naturals(NatRule::NatU),
-    RuleName::Naturals(NatRule::Zero),
+    RuleName::Pi(PiRule::PiTy),
+    RuleName::Pi(PiRule::PiU),
+    RuleName::Contexts(ContextRule::SubId),
+    RuleName::Contexts(ContextRule::SubVar),
+    RuleName::Contexts(ContextRule::SubWk),
     RuleName::Naturals(NatRule::Suc),
+    RuleName::Substitution(SubstitutionRule::TmSub),
+    RuleName::Substitution(SubstitutionRule::TmVar),
+    RuleName::Substitution(SubstitutionRule::TySub),
+    RuleName::Universe(UniverseRule::TyU),
+    RuleName::Naturals(NatRule::Zero),
 ];
 
 /// The name of a rule in derivation files.
 pub fn rule_name(rule: RuleName) -> &'static str
     ensures { result.now ≡ name_of rule }
 {
-    match rule {
-        RuleName::Contexts(ContextRule::CtxNil) => "ctx.nil",
-        RuleName::Universe(UniverseRule::TyU) => "ty.u",
-        RuleName::Naturals(NatRule::NatU) => "nat.u",
-        RuleName::Naturals(NatRule::Zero) => "zero",
-        RuleName::Naturals(NatRule::Suc) => "suc",
-    }
+    signature_of(rule).name
 }
 
 /// The kinds of the parts of a rule, in its order.
@@ -68,13 +90,7 @@ pub fn part_kinds(rule: RuleName) -> &'static [PartKind]
     ensures kinds { result.now ≡ kinds_of rule }
     ensures few { length result.now ≤ 16 }
 {
-    match rule {
-        RuleName::Contexts(ContextRule::CtxNil) => &[],
-        RuleName::Universe(UniverseRule::TyU) => &[PartKind::Context, PartKind::Term],
-        RuleName::Naturals(NatRule::NatU) => &[PartKind::Context],
-        RuleName::Naturals(NatRule::Zero) => &[PartKind::Context],
-        RuleName::Naturals(NatRule::Suc) => &[PartKind::Context, PartKind::Term],
-    }
+    signature_of(rule).parts
 }
 
 /// The number of parts of a rule.
@@ -96,35 +112,19 @@ pub fn part_kind(rule: RuleName, at: u8) -> PartKind
 pub fn count_premises(rule: RuleName) -> u8
     ensures { result ≡ premises_of rule }
 {
-    match rule {
-        RuleName::Contexts(ContextRule::CtxNil) => 0,
-        RuleName::Universe(UniverseRule::TyU) => 1,
-        RuleName::Naturals(NatRule::NatU) => 1,
-        RuleName::Naturals(NatRule::Zero) => 1,
-        RuleName::Naturals(NatRule::Suc) => 1,
-    }
+    signature_of(rule).premises
 }
 
-/// The version of the rules from which on a rule stands in files.
-fn first_version(rule: RuleName) -> u32
-    ensures { result ≡ first_version rule }
+/// The rule of this name in any version, if any.
+fn named(name: &[u8]) -> Option<RuleName>
+    ensures some { IfSome result (λ rule. name.now ≡ name_of rule) }
+    ensures none { IfNone result ((rule : RuleName) → name.now ≡ name_of rule → ⊥) }
 {
-    match rule {
-        RuleName::Contexts(_) | RuleName::Universe(_) | RuleName::Naturals(_) => 1,
+    let place = RULES.binary_search_by(|rule| rule_name(*rule).as_bytes().cmp(name));
+    match place {
+        Ok(at) => Some(RULES[at]),
+        Err(_) => None,
     }
-}
-
-/// The first of these rules that has the name and stands in the version.
-fn first_named(rules: &[RuleName], name: &[u8], version: u32) -> Option<RuleName>
-    ensures some { IfSome result (IsRule version name.now) }
-    ensures none { IfNone result (All (λ rule. IsRule version name.now rule → ⊥) rules.now) }
-{
-    for rule in rules {
-        if name == rule_name(*rule).as_bytes() && first_version(*rule) <= version {
-            return Some(*rule);
-        }
-    }
-    None
 }
 
 /// The rule of this name in a version of the rules, if any.
@@ -132,5 +132,10 @@ pub fn rule_of(name: &[u8], version: u32) -> Option<RuleName>
     ensures some { IfSome result (IsRule version name.now) }
     ensures none { IfNone result ((rule : RuleName) → IsRule version name.now rule → ⊥) }
 {
-    first_named(RULES, name, version)
+    let rule = named(name)?;
+    if signature_of(rule).version <= version {
+        Some(rule)
+    } else {
+        None
+    }
 }

@@ -1,6 +1,6 @@
-use Rattle.derivation.proofs.Unique.{row_one, rows_one}
-use Rattle.derivation.proofs.Fronts.{rows_parts, rows_whole}
-use Rattle.derivation.proofs.Sound.{conclusions_sound}
+use Rattle.derivation.proofs.UniqueLaws.{row_one, rows_one}
+use Rattle.derivation.proofs.PrefixLaws.{rows_parts, rows_whole}
+use Rattle.derivation.proofs.SoundLaws.{conclusions_sound}
 use Rattle.derivation.proofs.laws_of_meanings.Goals as goal
 
 pub returns-clause-row : goal.returns-clause-row

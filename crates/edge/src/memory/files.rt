@@ -35,7 +35,11 @@ impl Model for MemFiles {
       held = held_in f.held;
       failing = f.script.failing.items;
       calls = f.script.calls;
-      counts = record { misses = f.misses; fetch_faults = f.fetch_faults; store_faults = f.store_faults };
+      counts = record {
+        misses = f.misses;
+        fetch_faults = f.fetch_faults;
+        store_faults = f.store_faults;
+      };
     } };
 }
 
@@ -83,11 +87,7 @@ impl MemFiles {
 impl Files for MemFiles {
     ghost held = { λ s. Some s.held };
 
-    ghost misses = { λ s. s.counts.misses };
-
-    ghost fetch_faults = { λ s. s.counts.fetch_faults };
-
-    ghost store_faults = { λ s. s.counts.store_faults };
+    ghost counts = { λ s. s.counts };
 
     fn fetch(&mut self, path: &str, into: &mut Vec<u8>) -> Fetched
         ensures bytes { FetchGives (Some self.old.held) path.now

@@ -52,8 +52,8 @@ impl MemSource {
     }
 }
 
-/// Copies to the front of a slice as much as fits of the front of another, and tells how much.
-fn copy_front(from: &[u8], to: &mut [u8]) -> usize
+/// Copies to the start of a slice as much as fits of the start of another, and tells how much.
+fn copy_start(from: &[u8], to: &mut [u8]) -> usize
     ensures count { result ≡ min (length to.old) (length from.now) }
     ensures copied { to.new ≡ take result from.now ++ drop result to.old }
 {
@@ -77,7 +77,7 @@ impl Source for MemSource {
             self.faults = self.faults.saturating_add(1);
             return Got::Failed;
         }
-        let count = copy_front(self.bytes.split_at(self.at).1, buf);
+        let count = copy_start(self.bytes.split_at(self.at).1, buf);
         self.at += count;
         Got::Bytes(count)
     }

@@ -3,16 +3,16 @@ use Rattle.closures.specs.Shown.{lists}
 use Rattle.closures.specs.Environments.{deepest, listed}
 use Rattle.closures.specs.Closures.{found_meaning}
 use Rattle.closures.specs.Weights.{row_weight, weight_of, closure_weight, FoundLess}
-use Rattle.closures.proofs.TableLaws.{grows-grows}
+use Rattle.rows.proofs.TableLaws.{grows-grows}
 use Rattle.closures.proofs.WeightLaws.{row_weight-two}
 use Rattle.closures.proofs.HeadLaws.{follows-same, follows-follows, instance-follows, make-opens, variable-of, tree-follows}
 use Rattle.closures.proofs.heads.head_of.Goals as goal
 
 pub loop-index-init : goal.loop-index-init
-loop-index-init g c = follows-same (g.R.Reader.means c.args.rows.now) (lists c.args.environments.now) c.args.closure
+loop-index-init g c = follows-same (g.R.Rows.means c.args.rows.now) (lists c.args.environments.now) c.args.closure
 
-pub tree-requires : goal.tree-requires
-tree-requires g c = (c.loop-index.invariant.stands deepest c.requires).row
+pub term-requires : goal.term-requires
+term-requires g c = (c.loop-index.invariant.stands deepest c.requires).row
 
 pub look-requires : goal.look-requires
 look-requires g c = (c.loop-index.invariant.stands deepest c.requires).environment
@@ -27,7 +27,7 @@ returns-in-Index-clause-grows g c =
 
 pub returns-in-Index-clause-meaning : goal.returns-in-Index-clause-meaning
 returns-in-Index-clause-meaning g c =
-    let f = g.R.Reader.means c.args.rows.now in
+    let f = g.R.Rows.means c.args.rows.now in
     ap (found_meaning f (lists c.look.new.environments)) (sym c.in-Index.is)
     ∙ c.in_ok-index-in-Var.ensures.meaning
     ∙ variable-of f (lists c.loop-index.environments) c.loop-index.closure c.in-Var.index c.in-Var.ensures.meaning
@@ -35,7 +35,7 @@ returns-in-Index-clause-meaning g c =
 
 pub loop-index-preserved-in-Tree : goal.loop-index-preserved-in-Tree
 loop-index-preserved-in-Tree g c =
-    let f = g.R.Reader.means c.args.rows.now in
+    let f = g.R.Rows.means c.args.rows.now in
     let now = lists c.loop-index.environments in
     let new = lists c.look.new.environments in
     follows-follows f (lists c.args.environments.now) now new c.args.closure c.loop-index.closure c.in-Tree.tree
@@ -48,7 +48,7 @@ loop-index-smaller-in-Tree g c =
     let new = lists c.look.new.environments in
     let ws = listed (lists c.loop-index.environments) c.loop-index.closure.environment in
     let less : closure_weight new c.in-Tree.tree < weight_of ws = subst (FoundLess new (weight_of ws)) c.in-Tree.is c.in_ok-index-in-Var.ensures.weight in
-    let smaller : closure_weight new c.in-Tree.tree < row_weight c.loop-index.closure.row + weight_of ws = omega arith in
+    let smaller : closure_weight new c.in-Tree.tree < row_weight c.loop-index.closure.row.0 + weight_of ws = omega arith in
     smaller
 
 pub returns-in-Make-clause-grows : goal.returns-in-Make-clause-grows
@@ -56,8 +56,8 @@ returns-in-Make-clause-grows g c = c.loop-index.invariant.grows
 
 pub returns-in-Make-clause-meaning : goal.returns-in-Make-clause-meaning
 returns-in-Make-clause-meaning g c =
-    let f = g.R.Reader.means c.args.rows.now in
-    make-opens f (f c.loop-index.closure.row) (listed (lists c.loop-index.environments) c.loop-index.closure.environment) c.in-Make.op _
+    let f = g.R.Rows.means c.args.rows.now in
+    make-opens f (f c.loop-index.closure.row.0) (listed (lists c.loop-index.environments) c.loop-index.closure.environment) c.in-Make.op _
     (c.loop-index.invariant.stands deepest c.requires).row c.in-Make.ensures.meaning
     ∙ c.loop-index.invariant.meaning
 
@@ -73,9 +73,9 @@ returns-in_err-push-in-Instance-clause-grows g c =
 
 pub loop-index-smaller : goal.loop-index-smaller
 loop-index-smaller g c =
-    let t = c.in-Instance.tree in
-    let s = c.in-Instance.subst in
-    let row = c.loop-index.closure.row in
+    let t = c.in-Instance.tree.0 in
+    let s = c.in-Instance.subst.0 in
+    let row = c.loop-index.closure.row.0 in
     let ws = listed (lists c.loop-index.environments) c.loop-index.closure.environment in
     let longer = listed (lists c.push.new.self) c.in_ok-push-in-Instance.field-0 in
     let t_earlier : t < row = c.in-Instance.ensures.earlier 0 0 (omega arith) in
@@ -87,7 +87,7 @@ loop-index-smaller g c =
 
 pub loop-index-preserved : goal.loop-index-preserved
 loop-index-preserved g c =
-    let f = g.R.Reader.means c.args.rows.now in
+    let f = g.R.Rows.means c.args.rows.now in
     let now = lists c.loop-index.environments in
     let new = lists c.push.new.self in
     follows-follows f (lists c.args.environments.now) now new c.args.closure c.loop-index.closure _

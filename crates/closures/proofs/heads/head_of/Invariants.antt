@@ -5,7 +5,7 @@ use Rattle.closures.proofs.heads.head_of.Given as goal
 
 -- the closure means what the first one does, and stands for whatever depth that did
 abbrev pub invariant-loop-index : goal.invariant-loop-index
-invariant-loop-index g l = Follows (g.R.Reader.means l.rows) (lists l.fn.environments) l.fn.closure (lists l.environments) l.closure
+invariant-loop-index g l = Follows (g.R.Rows.means l.rows) (lists l.fn.environments) l.fn.closure (lists l.environments) l.closure
 
 -- what is met weighs more than what it opens to
 abbrev pub decreases-loop-index : goal.decreases-loop-index

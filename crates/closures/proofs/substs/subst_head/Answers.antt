@@ -1,93 +1,71 @@
-use Rattle.std.proofs.Common.{◌≡◌, ◌<◌, ◌≤◌, ◌+◌, ◌-◌, ◌^◌, ◌∷◌, Some, suc, length, sym, ◌∙◌, ap, arith, rules}
+use Rattle.std.proofs.Common.{◌≡◌, ◌<◌, ◌≤◌, ◌+◌, ◌-◌, ◌^◌, suc, length, ap, arith}
 use Rattle.closures.specs.Shown.{lists}
-use Rattle.theory.specs.Trees.{shift_by}
-use Rattle.theory.specs.Things.{ASubst}
-use Rattle.closures.specs.Environments.{deepest, waiting, listed, node_list}
+use Rattle.closures.specs.Environments.{listed, node_list}
 use Rattle.closures.specs.Weights.{row_weight, weight_of}
-use Rattle.closures.proofs.TableLaws.{length-built}
+use Rattle.rows.proofs.TableLaws.{length-built}
 use Rattle.closures.proofs.WeightLaws.{row_weight-pos, row_weight-one, row_weight-two}
-use Rattle.closures.proofs.SubstLaws.{drops-first, drops-none, drops-push, drops-then, drops-shift, drops-fit, node-plain, plain-raised}
-use Rattle.closures.proofs.substs.subst_head.Given as given
+use Rattle.closures.proofs.SubstLaws.{drops-first, drops-none, drops-push, drops-then, drops-past, drops-all, drops-fit}
 use Rattle.closures.proofs.substs.subst_head.Goals as goal
-use Rattle.closures.proofs.substs.subst_head.Goals.{In-Under}
 
-pub loop-next-init : goal.loop-next-init
-loop-next-init g c = drops-first (g.R.Reader.means c.args.rows.now) (lists c.args.environments.now) c.args.closure c.requires
+pub loop-past-init : goal.loop-past-init
+loop-past-init g c = drops-first (g.R.Rows.means c.args.rows.now) (lists c.args.environments.now) c.args.closure c.requires
+
+pub passed-requires-clause-fits : goal.passed-requires-clause-fits
+passed-requires-clause-fits g c =
+    let l = c.loop-past in
+    let few : length (lists l.environments) ≤ 2 ^ 64 = omega (arith, length-built node_list l.environments.nodes.keys, l.environments.few) in
+    drops-fit l.invariant few
+
+pub returns-in_default-first_waiting-clause-meaning : goal.returns-in_default-first_waiting-clause-meaning
+returns-in_default-first_waiting-clause-meaning g c =
+    drops-all c.loop-past.invariant c.in-Some.past c.in-Some.ensures c.in_default-first_waiting.ensures
+
+pub loop-past-smaller-in-Some : goal.loop-past-smaller-in-Some
+loop-past-smaller-in-Some g c =
+    let now = lists c.loop-past.environments in
+    let first = c.in-Some-first_waiting in
+    let pos = row_weight-pos c.loop-past.row.0 in
+    let weight : weight_of (listed now c.loop-past.environment) ≡ row_weight first.next.0 + weight_of (listed now first.rest) = ap weight_of first.ensures.list in
+    let smaller : row_weight first.next.0 + weight_of (listed now first.rest) < row_weight c.loop-past.row.0 + weight_of (listed now c.loop-past.environment) = omega arith in
+    smaller
+
+pub loop-past-preserved-in-Some : goal.loop-past-preserved-in-Some
+loop-past-preserved-in-Some g c =
+    let first = c.in-Some-first_waiting in
+    drops-past c.loop-past.invariant c.in-Some.past first.next first.rest c.in-Some.ensures first.ensures
 
 pub returns-then-dropped-eq0-clause-meaning : goal.returns-then-dropped-eq0-clause-meaning
 returns-then-dropped-eq0-clause-meaning g c =
-    let l = c.loop-next in
-    drops-none (g.R.Reader.means c.args.rows.now) (lists c.args.environments.now) c.args.closure (lists l.environments) l.row l.environment l.dropped
-    c.in-Push.next c.in-Push.tree l.invariant c.if-dropped-eq0.true c.in-Push.ensures.meaning
+    drops-none c.loop-past.invariant c.in-Push.next c.in-Push.tree c.if-dropped-eq0.true c.in-Push.ensures.meaning
 
-pub loop-next-smaller-in-Push : goal.loop-next-smaller-in-Push
-loop-next-smaller-in-Push g c =
-    let ws = listed (lists c.loop-next.environments) c.loop-next.environment in
-    let earlier : c.in-Push.next < c.loop-next.row = c.in-Push.ensures.earlier 0 0 (omega arith) in
-    let less = row_weight-one c.in-Push.next c.loop-next.row earlier in
-    let smaller : row_weight c.in-Push.next + weight_of ws < row_weight c.loop-next.row + weight_of ws = omega arith in
+pub loop-past-smaller-in-Push : goal.loop-past-smaller-in-Push
+loop-past-smaller-in-Push g c =
+    let ws = listed (lists c.loop-past.environments) c.loop-past.environment in
+    let earlier : c.in-Push.next.0 < c.loop-past.row.0 = c.in-Push.ensures.earlier 0 0 (omega arith) in
+    let less = row_weight-one c.in-Push.next.0 c.loop-past.row.0 earlier in
+    let smaller : row_weight c.in-Push.next.0 + weight_of ws < row_weight c.loop-past.row.0 + weight_of ws = omega arith in
     smaller
 
-pub loop-next-preserved-in-Push : goal.loop-next-preserved-in-Push
-loop-next-preserved-in-Push g c =
-    let more : c.loop-next.dropped ≡ suc (c.loop-next.dropped - 1) = omega (arith, c.if-dropped-eq0.false) in
-    drops-push c.loop-next.invariant c.in-Push.next c.in-Push.tree (c.loop-next.dropped - 1) c.in-Push.ensures.meaning
+pub loop-past-preserved-in-Push : goal.loop-past-preserved-in-Push
+loop-past-preserved-in-Push g c =
+    let more : c.loop-past.dropped ≡ suc (c.loop-past.dropped - 1) = omega (arith, c.if-dropped-eq0.false) in
+    drops-push c.loop-past.invariant c.in-Push.next c.in-Push.tree (c.loop-past.dropped - 1) c.in-Push.ensures.meaning
     (c.in-Push.ensures.earlier 0 0 (omega arith)) more
 
-pub loop-next-smaller-in-Then : goal.loop-next-smaller-in-Then
-loop-next-smaller-in-Then g c =
-    let one = c.in-Then.first in
-    let two = c.in-Then.second in
-    let row = c.loop-next.row in
-    let ws = listed (lists c.loop-next.environments) c.loop-next.environment in
+pub loop-past-smaller : goal.loop-past-smaller
+loop-past-smaller g c =
+    let one = c.in-Then.first.0 in
+    let two = c.in-Then.second.0 in
+    let row = c.loop-past.row.0 in
+    let ws = listed (lists c.loop-past.environments) c.loop-past.environment in
     let longer = listed (lists c.push.new.self) c.in_ok-environment-in-Then.environment in
     let less = row_weight-two one two row (c.in-Then.ensures.earlier 0 0 (omega arith)) (c.in-Then.ensures.earlier 1 0 (omega arith)) in
     let more : weight_of longer ≡ row_weight two + weight_of ws = ap weight_of c.in_ok-environment-in-Then.ensures.list in
     let smaller : row_weight one + weight_of longer < row_weight row + weight_of ws = omega arith in
     smaller
 
-pub loop-next-preserved-in-Then : goal.loop-next-preserved-in-Then
-loop-next-preserved-in-Then g c =
-    drops-then c.loop-next.invariant c.in-Then.first c.in-Then.second (lists c.push.new.self) c.in_ok-environment-in-Then.environment
+pub loop-past-preserved : goal.loop-past-preserved
+loop-past-preserved g c =
+    drops-then c.loop-past.invariant c.in-Then.first c.in-Then.second (lists c.push.new.self) c.in_ok-environment-in-Then.environment
     c.in-Then.ensures.meaning (c.in-Then.ensures.earlier 0 0 (omega arith)) (c.in-Then.ensures.earlier 1 0 (omega arith))
     c.push.ensures.grows c.in_ok-environment-in-Then.ensures.list c.in_ok-environment-in-Then.ensures.within
-
-pub overflow_add-dropped : goal.overflow_add-dropped
-overflow_add-dropped g c =
-    let l = c.loop-next in
-    let by : c.from-dropped.result ≤ deepest = omega (arith, c.from-dropped.ensures) in
-    let few : length (lists l.environments) ≤ 2 ^ 64 = omega (arith, length-built node_list l.environments.nodes.keys, l.environments.few) in
-    let fits : l.dropped + c.from-dropped.result < 2 ^ 128 = drops-fit (g.R.Reader.means c.args.rows.now) (lists c.args.environments.now) c.args.closure (lists l.environments) l.row l.environment l.dropped c.from-dropped.result l.invariant few by in
-    search (rules, fits)
-
--- the list of the environment that is a node
-node_of : (g : given.Over) (c : In-Under g) → listed (lists c.loop-next.environments) c.loop-next.environment ≡ waiting 0 c.node-node.result.step ∷ listed (lists c.loop-next.environments) c.node-node.result.rest
-node_of g c =
-    node-plain (g.R.Reader.means c.args.rows.now) (lists c.loop-next.environments) c.loop-next.environment c.in-Node.at c.in-Node.field-1 c.node-node.result.step c.node-node.result.rest
-    c.in-Node.is c.node-node.ensures.list c.loop-next.invariant.stands.plain
-
-pub loop-next-smaller : goal.loop-next-smaller
-loop-next-smaller g c =
-    let now = lists c.loop-next.environments in
-    let rest = listed now c.node-node.result.rest in
-    let s = c.in-Under.subst in
-    let pos = row_weight-pos c.loop-next.row in
-    let list = node_of g (goal.at.loop-next-smaller g c).In-Under in
-    let weight : weight_of (listed now c.loop-next.environment) ≡ row_weight s + weight_of rest = ap weight_of list ∙ ap (λ step. weight_of (waiting 0 step ∷ rest)) c.in-Under.is in
-    let smaller : row_weight s + weight_of rest < row_weight c.loop-next.row + weight_of (listed now c.loop-next.environment) = omega arith in
-    smaller
-
-pub loop-next-preserved : goal.loop-next-preserved
-loop-next-preserved g c =
-    let by : c.from-dropped.result ≤ deepest = omega (arith, c.from-dropped.ensures) in
-    let shift = c.in-Shift.ensures.meaning ∙ ap (λ n. Some (ASubst (shift_by n))) (sym c.from-dropped.ensures) in
-    drops-shift c.loop-next.invariant c.from-dropped.result c.in-Node.at c.node-node.result.step c.node-node.result.rest
-    shift by (node_of g (goal.at.loop-next-preserved g c).In-Under) c.node-node.ensures.list c.in-Under.subst c.in-Under.is c.node-node.ensures.within
-
-pub unreachable-requires : goal.unreachable-requires
-unreachable-requires g c =
-    let f = g.R.Reader.means c.args.rows.now in
-    let now = lists c.loop-next.environments in
-    let plain = c.loop-next.invariant.stands.plain in
-    let list = node-plain f now c.loop-next.environment c.in-Node.at c.in-Node.field-1 c.node-node.result.step c.node-node.result.rest c.in-Node.is c.node-node.ensures.list plain in
-    plain-raised f c.in-Raised.field-0 c.node-node.result.step (listed now c.node-node.result.rest) (listed now c.loop-next.environment) plain list c.in-Raised.is

@@ -6,9 +6,9 @@ use Rattle.closures.proofs.SubstLaws.{Drops}
 use Rattle.closures.proofs.substs.subst_head.Given as goal
 
 -- so much was dropped on the way from the first closure
-abbrev pub invariant-loop-next : goal.invariant-loop-next
-invariant-loop-next g l =
-    Drops (g.R.Reader.means l.rows) (lists l.fn.environments) l.fn.closure (lists l.environments) l.row l.environment l.dropped
+abbrev pub invariant-loop-past : goal.invariant-loop-past
+invariant-loop-past g l =
+    Drops (g.R.Rows.means l.rows) (lists l.fn.environments) l.fn.closure (lists l.environments) l.row l.environment l.dropped
 
-abbrev pub decreases-loop-next : goal.decreases-loop-next
-decreases-loop-next g l = row_weight l.row + weight_of (listed (lists l.environments) l.environment)
+abbrev pub decreases-loop-past : goal.decreases-loop-past
+decreases-loop-past g l = row_weight l.row.0 + weight_of (listed (lists l.environments) l.environment)

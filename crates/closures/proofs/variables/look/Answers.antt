@@ -4,7 +4,7 @@ use Rattle.closures.specs.Environments.{deepest, listed, node_list}
 use Rattle.closures.specs.Closures.{Stands, EnteredStands, IsNear, variable_meaning, entered_meaning}
 use Rattle.closures.specs.Weights.{weight_of, entered_weight}
 use Rattle.closures.specs.declared.environments.Environment.TheVariants as env
-use Rattle.closures.proofs.TableLaws.{length-built}
+use Rattle.rows.proofs.TableLaws.{length-built}
 use Rattle.closures.proofs.LookLaws.{Looks, looks-first, looks-fits, looks-past}
 use Rattle.closures.proofs.variables.look.Given as given
 use Rattle.closures.proofs.variables.look.Goals as goal
@@ -13,13 +13,13 @@ use Rattle.closures.proofs.variables.look.Goals.{In-Node}
 pub loop-environment-init : goal.loop-environment-init
 loop-environment-init g c =
     let same = c.from-index.ensures in
-    subst (λ n. Looks (g.R.Reader.means c.args.rows.now) (lists c.args.environments.now) c.args.index c.args.environment (lists c.args.environments.now) n c.args.environment) (sym same)
-    (looks-first (g.R.Reader.means c.args.rows.now) (lists c.args.environments.now) c.args.index c.args.environment (omega arith))
+    subst (λ n. Looks (g.R.Rows.means c.args.rows.now) (lists c.args.environments.now) c.args.index c.args.environment (lists c.args.environments.now) n c.args.environment) (sym same)
+    (looks-first (g.R.Rows.means c.args.rows.now) (lists c.args.environments.now) c.args.index c.args.environment (omega arith))
 
 -- the invariant at the node that the loop goes on with
-at_node : (g : given.Over) (c : In-Node g) → Looks (g.R.Reader.means c.args.rows.now) (lists c.args.environments.now) c.args.index c.args.environment (lists c.loop-environment.environments) c.loop-environment.index (env.Node c.in-Node.at c.in-Node.lift)
+at_node : (g : given.Over) (c : In-Node g) → Looks (g.R.Rows.means c.args.rows.now) (lists c.args.environments.now) c.args.index c.args.environment (lists c.loop-environment.environments) c.loop-environment.index (env.Node c.in-Node.at c.in-Node.lift)
 at_node g c =
-    subst (Looks (g.R.Reader.means c.args.rows.now) (lists c.args.environments.now) c.args.index c.args.environment (lists c.loop-environment.environments) c.loop-environment.index) c.in-Node.is c.loop-environment.invariant
+    subst (Looks (g.R.Rows.means c.args.rows.now) (lists c.args.environments.now) c.args.index c.args.environment (lists c.loop-environment.environments) c.loop-environment.index) c.in-Node.is c.loop-environment.invariant
 
 pub pass-requires-clause-stands : goal.pass-requires-clause-stands
 pass-requires-clause-stands g c = (at_node g (goal.at.pass-requires-clause-stands g c).In-Node).stands deepest c.requires
@@ -32,7 +32,7 @@ pass-requires-clause-fits g c =
 
 pub loop-environment-preserved : goal.loop-environment-preserved
 loop-environment-preserved g c =
-    let f = g.R.Reader.means c.args.rows.now in
+    let f = g.R.Rows.means c.args.rows.now in
     let known = lists c.loop-environment.environments in
     let newer = lists c.pass.new.environments in
     let node = env.Node c.in-Node.at c.in-Node.lift in
@@ -46,7 +46,7 @@ loop-environment-preserved g c =
 
 pub returns-in-Tree-clause-stands : goal.returns-in-Tree-clause-stands
 returns-in-Tree-clause-stands g c = λ n s.
-    let f = g.R.Reader.means c.args.rows.now in
+    let f = g.R.Rows.means c.args.rows.now in
     let known = lists c.loop-environment.environments in
     let newer = lists c.pass.new.environments in
     let node = env.Node c.in-Node.at c.in-Node.lift in

@@ -6,7 +6,7 @@ use Rattle.closures.proofs.variables.look.Given as goal
 
 abbrev pub invariant-loop-environment : goal.invariant-loop-environment
 invariant-loop-environment g l =
-    Looks (g.R.Reader.means l.rows) (lists l.fn.environments) l.fn.index l.fn.environment (lists l.environments) l.index l.environment
+    Looks (g.R.Rows.means l.rows) (lists l.fn.environments) l.fn.index l.fn.environment (lists l.environments) l.index l.environment
 
 abbrev pub decreases-loop-environment : goal.decreases-loop-environment
 decreases-loop-environment g l = weight_of (listed (lists l.environments) l.environment)

@@ -1,10 +1,10 @@
 use Rattle.std.proofs.Common.{◌+◌, ◌∙◌, ap, subst, arith}
 use Rattle.closures.specs.Shown.{lists}
 use Rattle.closures.specs.Environments.{deepest, listed}
-use Rattle.closures.specs.Closures.{IsStep, variable_meaning}
-use Rattle.closures.specs.Weights.{step_weight}
+use Rattle.closures.specs.Closures.{IsDelayed, variable_meaning}
+use Rattle.closures.specs.Weights.{delayed_weight}
 use Rattle.closures.proofs.EnvironmentLaws.{AtNode}
-use Rattle.closures.proofs.NodeLaws.{weight_of-node, is_step-node, stands-node, meaning-below, meaning-raised, meaning-under, weight-past, stands-past_node}
+use Rattle.closures.proofs.NodeLaws.{weight_of-node, is_delayed-node, stands-node, meaning-below, meaning-raised, meaning-under, weight-past, stands-past_node}
 use Rattle.closures.proofs.variables.pass.Given as given
 use Rattle.closures.proofs.variables.pass.Goals as goal
 use Rattle.closures.proofs.variables.pass.Goals.{After-node-node}
@@ -14,15 +14,15 @@ here g c = record { list = c.node-node.ensures.list; within = c.node-node.ensure
 
 pub deeper-requires-clause-shallow : goal.deeper-requires-clause-shallow
 deeper-requires-clause-shallow g c =
-    (stands-node (here g (goal.at.deeper-requires-clause-shallow g c).After-node-node) c.args.lift (g.R.Reader.means c.args.rows.now) deepest c.requires.stands).shallow
+    (stands-node (here g (goal.at.deeper-requires-clause-shallow g c).After-node-node) c.args.lift (g.R.Rows.means c.args.rows.now) deepest c.requires.stands).shallow
 
 pub returns-then-index-from-clause-meaning : goal.returns-then-index-from-clause-meaning
 returns-then-index-from-clause-meaning g c =
-    meaning-below (here g (goal.at.returns-then-index-from-clause-meaning g c).After-node-node) c.args.lift c.deeper.result c.deeper.ensures.list (g.R.Reader.means c.args.rows.now) c.args.index (omega arith)
+    meaning-below (here g (goal.at.returns-then-index-from-clause-meaning g c).After-node-node) c.args.lift c.deeper.result c.deeper.ensures.list (g.R.Rows.means c.args.rows.now) c.args.index (omega arith)
 
 pub returns-then-index-from-clause-stands : goal.returns-then-index-from-clause-stands
 returns-then-index-from-clause-stands g c =
-    stands-past_node (here g (goal.at.returns-then-index-from-clause-stands g c).After-node-node) c.args.lift c.deeper.result c.deeper.ensures.list c.deeper.ensures.within (g.R.Reader.means c.args.rows.now)
+    stands-past_node (here g (goal.at.returns-then-index-from-clause-stands g c).After-node-node) c.args.lift c.deeper.result c.deeper.ensures.list c.deeper.ensures.within (g.R.Rows.means c.args.rows.now)
 
 pub returns-then-index-from-clause-weight : goal.returns-then-index-from-clause-weight
 returns-then-index-from-clause-weight g c =
@@ -30,27 +30,27 @@ returns-then-index-from-clause-weight g c =
 
 pub deeper-rest-requires-clause-shallow : goal.deeper-rest-requires-clause-shallow
 deeper-rest-requires-clause-shallow g c =
-    (stands-node (here g (goal.at.deeper-rest-requires-clause-shallow g c).After-node-node) c.args.lift (g.R.Reader.means c.args.rows.now) deepest c.requires.stands).shallow
+    (stands-node (here g (goal.at.deeper-rest-requires-clause-shallow g c).After-node-node) c.args.lift (g.R.Rows.means c.args.rows.now) deepest c.requires.stands).shallow
 
 pub enter-requires-clause-subst : goal.enter-requires-clause-subst
 enter-requires-clause-subst g c =
-    let f = g.R.Reader.means c.args.rows.now in
-    subst (IsStep f) c.in-Under.is (is_step-node (here g (goal.at.enter-requires-clause-subst g c).After-node-node) c.args.lift f deepest c.requires.stands)
+    let f = g.R.Rows.means c.args.rows.now in
+    subst (IsDelayed f) c.in-Under.is (is_delayed-node (here g (goal.at.enter-requires-clause-subst g c).After-node-node) c.args.lift f deepest c.requires.stands)
 
 pub enter-requires-clause-stands : goal.enter-requires-clause-stands
 enter-requires-clause-stands g c =
-    stands-node (here g (goal.at.enter-requires-clause-stands g c).After-node-node) c.args.lift (g.R.Reader.means c.args.rows.now) deepest c.requires.stands
+    stands-node (here g (goal.at.enter-requires-clause-stands g c).After-node-node) c.args.lift (g.R.Rows.means c.args.rows.now) deepest c.requires.stands
 
 pub returns-in-Raised-clause-meaning : goal.returns-in-Raised-clause-meaning
 returns-in-Raised-clause-meaning g c =
-    let f = g.R.Reader.means c.args.rows.now in
+    let f = g.R.Rows.means c.args.rows.now in
     let by = c.from-in-Raised.ensures in
     ap (λ n. variable_meaning f (listed (lists c.args.environments.now) c.deeper-rest.result) (c.args.index + n)) by
     ∙ meaning-raised (here g (goal.at.returns-in-Raised-clause-meaning g c).After-node-node) c.args.lift c.deeper-rest.result c.deeper-rest.ensures.list f c.args.index c.in-Raised.by (omega arith) c.in-Raised.is
 
 pub returns-in-Raised-clause-stands : goal.returns-in-Raised-clause-stands
 returns-in-Raised-clause-stands g c =
-    stands-past_node (here g (goal.at.returns-in-Raised-clause-stands g c).After-node-node) c.args.lift c.deeper-rest.result c.deeper-rest.ensures.list c.deeper-rest.ensures.within (g.R.Reader.means c.args.rows.now)
+    stands-past_node (here g (goal.at.returns-in-Raised-clause-stands g c).After-node-node) c.args.lift c.deeper-rest.result c.deeper-rest.ensures.list c.deeper-rest.ensures.within (g.R.Rows.means c.args.rows.now)
 
 pub returns-in-Raised-clause-weight : goal.returns-in-Raised-clause-weight
 returns-in-Raised-clause-weight g c =
@@ -60,16 +60,16 @@ pub returns-in_ok-enter-in-Under-clause-meaning : goal.returns-in_ok-enter-in-Un
 returns-in_ok-enter-in-Under-clause-meaning g c =
     let node = here g (goal.at.returns-in_ok-enter-in-Under-clause-meaning g c).After-node-node in
     c.in_ok-enter-in-Under.ensures.meaning
-    ∙ meaning-under node c.args.lift (g.R.Reader.means c.args.rows.now) c.in-Under.subst c.args.index c.in-Under.is
+    ∙ meaning-under node c.args.lift (g.R.Rows.means c.args.rows.now) c.in-Under.subst c.args.index c.in-Under.is
 
 pub returns-in_ok-enter-in-Under-clause-stands : goal.returns-in_ok-enter-in-Under-clause-stands
 returns-in_ok-enter-in-Under-clause-stands g c = λ n s.
     let node = here g (goal.at.returns-in_ok-enter-in-Under-clause-stands g c).After-node-node in
-    c.in_ok-enter-in-Under.ensures.stands n (stands-node node c.args.lift (g.R.Reader.means c.args.rows.now) n s)
+    c.in_ok-enter-in-Under.ensures.stands n (stands-node node c.args.lift (g.R.Rows.means c.args.rows.now) n s)
 
 pub returns-in_ok-enter-in-Under-clause-weight : goal.returns-in_ok-enter-in-Under-clause-weight
 returns-in_ok-enter-in-Under-clause-weight g c =
     let e = weight_of-node (here g (goal.at.returns-in_ok-enter-in-Under-clause-weight g c).After-node-node) c.args.lift in
-    let s = ap step_weight c.in-Under.is in
+    let s = ap delayed_weight c.in-Under.is in
     let less = c.in_ok-enter-in-Under.ensures.weight in
     omega arith

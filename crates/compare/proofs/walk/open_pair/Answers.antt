@@ -1,7 +1,7 @@
 use Rattle.std.proofs.Common.{arith, rules}
 use Rattle.std.proofs.lemmas.Bool.{eqb-true}
 use denote.Enum.Bare.{same_true, same_false}
-use Rattle.theory.specs.contracts.op.Op.{the_type}
+use Rattle.trees.specs.contracts.op.Op.{the_type}
 use Rattle.closures.specs.Environments.{deepest}
 use Rattle.closures.specs.Shown.{lists}
 use Rattle.closures.proofs.HeadLaws.{closure-grows, closure-deeper}
@@ -10,13 +10,13 @@ use Rattle.compare.proofs.walk.open_pair.Goals as goal
 
 pub head_of-requires-2 : goal.head_of-requires-2
 head_of-requires-2 g c =
-    let f = g.R.Reader.means c.args.rows.now in
+    let f = g.R.Rows.means c.args.rows.now in
     closure-grows f (lists c.args.environments.now) (lists c.head_of.new.environments) deepest c.args.pair.right c.head_of.ensures.grows
     (closure-deeper f (lists c.args.environments.now) _ deepest c.args.pair.right (omega arith) c.requires.1)
 
 pub returns-then-ne-clause-no : goal.returns-then-ne-clause-no
 returns-then-ne-clause-no g c =
-    let f = g.R.Reader.means c.args.rows.now in
+    let f = g.R.Rows.means c.args.rows.now in
     let old = lists c.args.environments.now in
     let mid = lists c.head_of.new.environments in
     let known = lists c.head_of-2.new.environments in
@@ -26,7 +26,7 @@ returns-then-ne-clause-no g c =
 
 pub add_kids-requires-clause-left : goal.add_kids-requires-clause-left
 add_kids-requires-clause-left g c =
-    let f = g.R.Reader.means c.args.rows.now in
+    let f = g.R.Rows.means c.args.rows.now in
     let old = lists c.args.environments.now in
     let mid = lists c.head_of.new.environments in
     let known = lists c.head_of-2.new.environments in
@@ -36,7 +36,7 @@ add_kids-requires-clause-left g c =
 
 pub add_kids-requires-clause-right : goal.add_kids-requires-clause-right
 add_kids-requires-clause-right g c =
-    let f = g.R.Reader.means c.args.rows.now in
+    let f = g.R.Rows.means c.args.rows.now in
     let old = lists c.args.environments.now in
     let mid = lists c.head_of.new.environments in
     let known = lists c.head_of-2.new.environments in
@@ -47,7 +47,7 @@ add_kids-requires-clause-right g c =
 
 pub returns-in-Var-Var-clause-yes : goal.returns-in-Var-Var-clause-yes
 returns-in-Var-Var-clause-yes g c =
-    let f = g.R.Reader.means c.args.rows.now in
+    let f = g.R.Rows.means c.args.rows.now in
     let old = lists c.args.environments.now in
     let mid = lists c.head_of.new.environments in
     let known = lists c.head_of-2.new.environments in
@@ -57,7 +57,7 @@ returns-in-Var-Var-clause-yes g c =
 
 pub returns-in_ok-add_kids-in-Make-Make-clause-yes : goal.returns-in_ok-add_kids-in-Make-Make-clause-yes
 returns-in_ok-add_kids-in-Make-Make-clause-yes g c =
-    let f = g.R.Reader.means c.args.rows.now in
+    let f = g.R.Rows.means c.args.rows.now in
     let old = lists c.args.environments.now in
     let mid = lists c.head_of.new.environments in
     let known = lists c.head_of-2.new.environments in
@@ -68,7 +68,7 @@ returns-in_ok-add_kids-in-Make-Make-clause-yes g c =
 
 pub returns-in_ok-add_kids-in-Make-Make-clause-stand : goal.returns-in_ok-add_kids-in-Make-Make-clause-stand
 returns-in_ok-add_kids-in-Make-Make-clause-stand g c =
-    let f = g.R.Reader.means c.args.rows.now in
+    let f = g.R.Rows.means c.args.rows.now in
     let old = lists c.args.environments.now in
     let mid = lists c.head_of.new.environments in
     let known = lists c.head_of-2.new.environments in
@@ -78,7 +78,7 @@ returns-in_ok-add_kids-in-Make-Make-clause-stand g c =
 
 pub returns-in-Var-Make-clause-no : goal.returns-in-Var-Make-clause-no
 returns-in-Var-Make-clause-no g c =
-    let f = g.R.Reader.means c.args.rows.now in
+    let f = g.R.Rows.means c.args.rows.now in
     let old = lists c.args.environments.now in
     let mid = lists c.head_of.new.environments in
     let known = lists c.head_of-2.new.environments in
@@ -88,7 +88,7 @@ returns-in-Var-Make-clause-no g c =
 
 pub returns-in-Var-Make-2-clause-no : goal.returns-in-Var-Make-2-clause-no
 returns-in-Var-Make-2-clause-no g c =
-    let f = g.R.Reader.means c.args.rows.now in
+    let f = g.R.Rows.means c.args.rows.now in
     let old = lists c.args.environments.now in
     let mid = lists c.head_of.new.environments in
     let known = lists c.head_of-2.new.environments in

@@ -1,4 +1,4 @@
-use Rattle.deriv_file.proofs.ReaderLemmas.{no_newline, rest_is, line_spells, line_spells_none}
+use Rattle.deriv_file.proofs.ReaderLaws.{no_newline, rest_is, line_spells, line_spells_none}
 use Rattle.std.proofs.Common.{sym}
 use Rattle.deriv_file.proofs.line.first_row.Goals as goal
 

@@ -2,7 +2,7 @@ use Rattle.std.proofs.Common.{[], refl, sym, subst, map, decimal}
 use Rattle.deriv_file.specs.Words.{BeginWith}
 use Rattle.theory.specs.RuleNames.{premises_of}
 use Rattle.std.proofs.lemmas.Bool.{false≢true}
-use Rattle.deriv_file.proofs.RowLemmas.{node_row, same_rest}
+use Rattle.deriv_file.proofs.RowLaws.{node_row, same_rest}
 use Rattle.deriv_file.proofs.line.node.Goals as goal
 
 pub returns-in_default-2 : goal.returns-in_default-2

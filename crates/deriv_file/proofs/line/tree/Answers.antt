@@ -1,6 +1,6 @@
 use Rattle.std.proofs.Common.{[]}
 use Rattle.std.proofs.lemmas.Bool.{false≢true}
-use Rattle.deriv_file.proofs.RowLemmas.{tree_row, same_rest}
+use Rattle.deriv_file.proofs.RowLaws.{tree_row, same_rest}
 use Rattle.deriv_file.proofs.line.tree.Goals as goal
 
 pub returns-in_default-2 : goal.returns-in_default-2

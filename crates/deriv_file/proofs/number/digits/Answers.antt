@@ -1,5 +1,5 @@
 use Rattle.std.proofs.Common.{arith}
-use Rattle.deriv_file.proofs.NumberLemmas.{one_digit_more, first_digits_le, not_a_digit, all_digits}
+use Rattle.deriv_file.proofs.NumberLaws.{one_digit_more, first_digits_le, not_a_digit, all_digits}
 use Rattle.deriv_file.proofs.number.digits.Goals as goal
 
 pub returns-then-not-is_ascii_digit : goal.returns-then-not-is_ascii_digit

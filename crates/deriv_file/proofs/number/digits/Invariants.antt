@@ -1,4 +1,4 @@
-use Rattle.deriv_file.proofs.NumberLemmas.{DigitsBefore}
+use Rattle.deriv_file.proofs.NumberLaws.{DigitsBefore}
 use Rattle.deriv_file.proofs.number.digits.Given as goal
 
 abbrev pub invariant-loop-byte : goal.invariant-loop-byte

@@ -1,5 +1,5 @@
 use Rattle.std.proofs.Common.{◌≡◌, length, get_or, arith}
-use Rattle.deriv_file.proofs.NumberLemmas.{digits_of_number, number_read}
+use Rattle.deriv_file.proofs.NumberLaws.{digits_of_number, number_read}
 use Rattle.deriv_file.proofs.number.number.Goals as goal
 use Rattle.deriv_file.proofs.number.number.Goals.{else-first-eq48-via-then-first-eq48+else-word-gt1, else-first-eq48-via-else-first-eq48}
 

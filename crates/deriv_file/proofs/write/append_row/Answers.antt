@@ -1,4 +1,4 @@
-use Rattle.deriv_file.proofs.WriteLemmas.{tree_line, node_line}
+use Rattle.deriv_file.proofs.WriteLaws.{tree_line, node_line}
 use Rattle.deriv_file.proofs.write.append_row.Goals as goal
 
 pub returns-in-Make-clause-ok : goal.returns-in-Make-clause-ok

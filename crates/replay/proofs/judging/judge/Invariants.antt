@@ -3,8 +3,8 @@ use Rattle.replay.specs.Meant.{meant_by}
 use Rattle.replay.proofs.FileLaws.{Progress}
 use Rattle.replay.proofs.judging.judge.Given as goal
 
-abbrev pub invariant-loop-rows : goal.invariant-loop-rows
-invariant-loop-rows l = Progress l.bytes l.reader (meant_by l.rows) l.roots
+abbrev pub invariant-loop-judge : goal.invariant-loop-judge
+invariant-loop-judge l = Progress l.bytes l.reader (meant_by l.judge) l.roots
 
-abbrev pub decreases-loop-rows : goal.decreases-loop-rows
-decreases-loop-rows l = length l.reader.rest
+abbrev pub decreases-loop-judge : goal.decreases-loop-judge
+decreases-loop-judge l = length l.reader.rest

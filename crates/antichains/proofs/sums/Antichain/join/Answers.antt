@@ -7,7 +7,7 @@ use Rattle.antichains.proofs.Truth.{some_all-append}
 use Rattle.antichains.proofs.sums.Antichain.join.Given.{Over}
 use Rattle.antichains.proofs.sums.Antichain.join.Goals as goal
 
--- what is put together is one list behind the other
+-- what is put together is one list after the other
 both : (g : Over) (c : goal.After-from_products g) → c.extend_from_slice.new.self.items ≡ c.args.self.now ++ c.args.other.now
 both g c =
     let left = each_same c.self.inside.products.items c.in_ok-products.products.items c.in_ok-products.ensures.cases.0 ∙ c.self.view_is in

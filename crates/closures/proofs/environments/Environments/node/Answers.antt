@@ -1,6 +1,6 @@
 use Rattle.std.proofs.Common.{arith}
 use Rattle.closures.specs.Environments.{node_list}
-use Rattle.closures.proofs.TableLaws.{length-built}
+use Rattle.rows.proofs.TableLaws.{length-built}
 use Rattle.closures.proofs.EnvironmentLaws.{at_node}
 use Rattle.closures.proofs.environments.Environments.node.Goals as goal
 

@@ -1,4 +1,5 @@
-use Rattle.std.proofs.Common.{◌≡◌}
+use Rattle.std.proofs.Common.{◌≡◌, ap}
+use Rattle.rows.specs.declared.views.SubId.{SubId}
 use Rattle.std.proofs.lemmas.Bool.{eqb-true, eqb-false}
 use Rattle.closures.specs.Shown.{lists}
 use Rattle.compare.proofs.AskLaws.{asks-pair}
@@ -7,16 +8,16 @@ use Rattle.compare.proofs.comparison.Comparison.ask_substs.Goals as goal
 
 pub loop-left-init : goal.loop-left-init
 loop-left-init g c =
-    substs-begin (g.R.Reader.means c.args.rows.now) (lists c.args.self.now.environments) c.args.left c.args.right c.of_row-left.result c.of_row-right.result c.args.self.now.pairs.keys
-    c.of_row-left.ensures.row c.of_row-left.ensures.environment c.of_row-right.ensures.row c.of_row-right.ensures.environment c.requires.left c.requires.right c.requires.stand
+    substs-begin (g.R.Rows.means c.args.rows.now) (lists c.args.self.now.environments) c.args.left c.args.right c.of_row-left.result c.of_row-right.result c.args.self.now.pairs.keys
+    (ap (λ (r : SubId). r.0) c.of_row-left.ensures.row) c.of_row-left.ensures.environment (ap (λ (r : SubId). r.0) c.of_row-right.ensures.row) c.of_row-right.ensures.environment c.requires.left c.requires.right c.requires.stand
 
 pub subst_head-requires-in-loop-left : goal.subst_head-requires-in-loop-left
 subst_head-requires-in-loop-left g c =
-    is_subst_closure-grows (g.R.Reader.means c.args.rows.now) (lists c.loop-left.self.environments) (lists c.subst_head.new.environments) c.loop-left.right c.subst_head.ensures.grows c.loop-left.invariant.right_stands
+    is_subst_closure-grows (g.R.Rows.means c.args.rows.now) (lists c.loop-left.self.environments) (lists c.subst_head.new.environments) c.loop-left.right c.subst_head.ensures.grows c.loop-left.invariant.right_stands
 
 pub returns-in-Shift-Shift-clause-yes : goal.returns-in-Shift-Shift-clause-yes
 returns-in-Shift-Shift-clause-yes g c =
-    let f = g.R.Reader.means c.args.rows.now in
+    let f = g.R.Rows.means c.args.rows.now in
     let same = f c.args.left ≡ f c.args.right in
     let l = c.loop-left in
     let known = lists c.subst_head-in-loop-left.new.environments in
@@ -25,7 +26,7 @@ returns-in-Shift-Shift-clause-yes g c =
 
 pub loop-left-preserved : goal.loop-left-preserved
 loop-left-preserved g c =
-    let f = g.R.Reader.means c.args.rows.now in
+    let f = g.R.Rows.means c.args.rows.now in
     let same = f c.args.left ≡ f c.args.right in
     let l = c.loop-left in
     let known = lists c.subst_head-in-loop-left.new.environments in
@@ -35,7 +36,7 @@ loop-left-preserved g c =
 
 pub returns-in-Shift-Shift-clause-no : goal.returns-in-Shift-Shift-clause-no
 returns-in-Shift-Shift-clause-no g c =
-    let f = g.R.Reader.means c.args.rows.now in
+    let f = g.R.Rows.means c.args.rows.now in
     let same = f c.args.left ≡ f c.args.right in
     let l = c.loop-left in
     let known = lists c.subst_head-in-loop-left.new.environments in
@@ -44,7 +45,7 @@ returns-in-Shift-Shift-clause-no g c =
 
 pub returns-in_default-clause-no : goal.returns-in_default-clause-no
 returns-in_default-clause-no g c =
-    let f = g.R.Reader.means c.args.rows.now in
+    let f = g.R.Rows.means c.args.rows.now in
     let same = f c.args.left ≡ f c.args.right in
     let l = c.loop-left in
     let known = lists c.subst_head-in-loop-left.new.environments in
@@ -53,7 +54,7 @@ returns-in_default-clause-no g c =
 
 pub returns-in_default-2-clause-no : goal.returns-in_default-2-clause-no
 returns-in_default-2-clause-no g c =
-    let f = g.R.Reader.means c.args.rows.now in
+    let f = g.R.Rows.means c.args.rows.now in
     let same = f c.args.left ≡ f c.args.right in
     let l = c.loop-left in
     let known = lists c.subst_head-in-loop-left.new.environments in
@@ -62,7 +63,7 @@ returns-in_default-2-clause-no g c =
 
 pub loop-left-smaller : goal.loop-left-smaller
 loop-left-smaller g c =
-    let f = g.R.Reader.means c.args.rows.now in
+    let f = g.R.Rows.means c.args.rows.now in
     let same = f c.args.left ≡ f c.args.right in
     let l = c.loop-left in
     let known = lists c.subst_head-in-loop-left.new.environments in

@@ -1,5 +1,5 @@
 use Rattle.std.proofs.Common.{◌<◌, length, ap, arith, rules}
-use Rattle.deriv_file.proofs.LineLemmas.{length-drop_through-lt}
+use Rattle.deriv_file.proofs.LineLaws.{length-drop_through-lt}
 use Rattle.deriv_file.proofs.reader.RowReader.next.Goals as goal
 
 pub invariant_of-self : goal.invariant_of-self

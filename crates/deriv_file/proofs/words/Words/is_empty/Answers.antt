@@ -1,4 +1,4 @@
-use Rattle.deriv_file.proofs.WordLemmas.{no_words}
+use Rattle.deriv_file.proofs.WordLaws.{no_words}
 use Rattle.deriv_file.proofs.words.Words.is_empty.Goals as goal
 
 pub returns : goal.returns

@@ -1,6 +1,6 @@
 use Rattle.std.proofs.Common.{◌∙◌, sym, ap}
 use Rattle.deriv_file.specs.Words.{words_left}
-use Rattle.deriv_file.proofs.WordLemmas.{first_word, one_word}
+use Rattle.deriv_file.proofs.WordLaws.{first_word, one_word}
 use Rattle.deriv_file.proofs.words.Words.take.Goals as goal
 
 pub returns-in-Some : goal.returns-in-Some

@@ -1,10 +1,13 @@
-use Rattle.std.proofs.Common.{◌++◌, length, drop, ap, sym, ◌∙◌}
-use Rattle.std.proofs.lemmas.List.{take-append-drop}
+use Rattle.std.proofs.Common.{None, sym, subst}
+use Rattle.edge.specs.declared.files.Fetched.{Fetched}
+use Rattle.edge.specs.Files.{FetchGives}
+use Rattle.edge.proofs.FetchLemmas.{gives}
 use Rattle.edge.proofs.disk.DiskFilesFiles.fetch.Goals as goal
 
-pub returns-in-Ok-clause-bytes : goal.returns-in-Ok-clause-bytes
-returns-in-Ok-clause-bytes g c =
+pub returns-clause-bytes : goal.returns-clause-bytes
+returns-clause-bytes g c =
     let old = c.args.into.now.items in
-    let new = c.append_file.new.into.items in
-    let appended = drop (length old) new in
-    (appended, sym (take-append-drop (length old) new) ∙ ap (λ front. front ++ appended) c.in-Ok.ensures.appends, tt)
+    let new = c.append_file-answer.new.into.items in
+    let Gives : Fetched → Type 0 = λ fetched. FetchGives None c.args.path.now old new fetched in
+    subst Gives (sym c.fetched_from-fetched.ensures)
+    (gives c.args.path.now old new c.append_file-answer.result c.append_file-answer.ensures.appends c.append_file-answer.ensures.err)

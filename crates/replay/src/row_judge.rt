@@ -1,0 +1,130 @@
+//! The judge of one row after the other.
+
+ghost use Rattle.std.specs.Prelude.{◌≡◌, ◌<◌, ℕ, length, IfOk};
+ghost use Rattle.trees.specs.Things.{Kept};
+ghost use Rattle.rows.specs.Shown.{things, store_means};
+ghost use Rattle.deriv_file.specs.Spelling.{MayStand};
+ghost use Rattle.deriv_file.specs.declared.row.Row.TheVariants as row;
+ghost use Rattle.replay.specs.Filed.{file_meanings, AllFiled, AllFit, FiledIs};
+
+use crate::filed::Filed;
+use crate::filed_rows::FiledRows;
+use crate::node::node_claim;
+use crate::thing::thing_row;
+use compare::Comparison;
+use deriv_file::Row;
+use rows::RowStore;
+use std::alloc::{AllocError, Global};
+
+/// What is kept of a root row, where what it names is a node.
+fn filed_root(store: &RowStore, filed: &FiledRows, node: u64) -> Option<Filed>
+    requires filed { AllFiled (things store.now) filed.now }
+    requires earlier { node < length filed.now }
+    ensures { let xs = things store.now in
+        FiledIs (file_meanings xs filed.now) xs (row.Root node) result }
+{
+    match filed.row(node) {
+        Filed::Node(_) => Some(Filed::Nothing),
+        Filed::Thing(_) => None,
+        Filed::Nothing => None,
+    }
+}
+
+/// What is kept of a row after others, if the row is right. The row may stand at its place.
+fn filed_of(
+    alloc: Global,
+    comparison: &mut Comparison,
+    store: &mut RowStore,
+    filed: &FiledRows,
+    row: &Row,
+) -> Result<Option<Filed>, AllocError>
+    requires filed { AllFiled (things store.old) filed.now }
+    requires fit { AllFit (file_meanings (things store.old) filed.now) }
+    requires stands { (version : ℕ) × MayStand version (length filed.now) row.now }
+    ensures kept { Kept (store_means store.old) (store_means store.new) }
+    ensures is { let before = file_meanings (things store.old) filed.now in
+        IfOk result (FiledIs before (things store.new) row.now) }
+{
+    if filed.is_empty() {
+        return match row {
+            Row::Header(_) => Ok(Some(Filed::Nothing)),
+            _ => Ok(None),
+        };
+    }
+    match row {
+        Row::Header(_) => Ok(None),
+        Row::Node(rule, parts, premises) => {
+            let (parts, premises) = (parts.as_slice(), premises.as_slice());
+            match node_claim(alloc, comparison, store, filed, *rule, parts, premises)? {
+                Some(claim) => Ok(Some(Filed::Node(claim))),
+                None => Ok(None),
+            }
+        }
+        Row::Root(node) => Ok(filed_root(store, filed, *node)),
+        _ => match thing_row(alloc, store, filed, row)? {
+            Some(at) => Ok(Some(Filed::Thing(at))),
+            None => Ok(None),
+        },
+    }
+}
+
+/// The rows of a file that were found right, in order. Contracts see the list of what they mean.
+#[derive(Drop)]
+pub struct RowJudge {
+    comparison: Comparison,
+    store: RowStore,
+    filed: FiledRows,
+    ghost all_filed: { AllFiled (things store) filed },
+    ghost all_fit: { AllFit (file_meanings (things store) filed) },
+}
+
+impl RowJudge {
+    ghost use Rattle.std.specs.Prelude.{◌≡◌, ◌++◌, ◌∷◌, ℕ, [], length, IfOk, OnErr, true, false};
+    ghost use Rattle.deriv_file.specs.Spelling.{MayStand};
+    ghost use Rattle.derivation.specs.Meanings.{Meaning};
+    ghost use Rattle.derivation.specs.Right.{RightRow};
+    ghost use Rattle.replay.specs.Meant.{meant_by};
+
+    pub fn new(alloc: Global) -> RowJudge
+        ensures { meant_by result ≡ [] }
+    {
+        RowJudge {
+            comparison: Comparison::new(alloc),
+            store: RowStore::new(alloc),
+            filed: FiledRows::new(alloc),
+        }
+    }
+
+    /// The number of rows.
+    pub fn len(&self) -> usize
+        ensures { result ≡ length (meant_by self.now) }
+    {
+        self.filed.len()
+    }
+
+    /// Adds a row that may stand at its place, if it is right. The answer says whether it is. Else, and out of memory, the
+    /// rows are as before.
+    pub fn add(&mut self, alloc: Global, row: &Row) -> Result<bool, AllocError>
+        requires { (version : ℕ) × MayStand version (length (meant_by self.old)) row.now }
+        ensures right { IfOk result (λ right. right ≡ true → (m : Meaning) ×
+            RightRow (meant_by self.old) row.now m ×
+            (meant_by self.new ≡ meant_by self.old ++ m ∷ [])) }
+        ensures wrong { IfOk result (λ right. right ≡ false →
+            (meant_by self.new ≡ meant_by self.old) ×
+            ((m : Meaning) → RightRow (meant_by self.old) row.now m → ⊥)) }
+        ensures err { OnErr result (meant_by self.new ≡ meant_by self.old) }
+    {
+        let filed = filed_of(
+            alloc,
+            &mut self.comparison,
+            &mut self.store,
+            &self.filed,
+            row,
+        )?;
+        let Some(row) = filed else {
+            return Ok(false);
+        };
+        self.filed.push(row)?;
+        Ok(true)
+    }
+}

@@ -1,0 +1,5 @@
+pub mod Views
+pub mod Tables
+pub mod Counts
+pub mod Held
+pub mod Shown

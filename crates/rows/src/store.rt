@@ -1,0 +1,243 @@
+//! Rows in memory.
+
+ghost use Rattle.rows.specs.Held.{AreHeld};
+
+use crate::held::{Held, HeldSize, HeldSub};
+use crate::traits::{Maker, Reader, Rows};
+use crate::views::{CtxId, CtxRow, SubId, SubRow, SubSize, TermId, TermRow};
+use std::alloc::{AllocError, Global};
+use trees::{Op, PartKind, kid_count};
+
+/// Rows in memory, named by their numbers from 0. Contracts see the list of what they mean. A row takes 24 bytes, each kid of an
+/// operator 8 more, and a substitution 64 more. After out of memory the rows are as before.
+#[derive(Drop)]
+pub struct RowStore {
+    rows: Vec<Held>,
+    kids: Vec<u64>,
+    subs: Vec<HeldSub>,
+    ghost held: { AreHeld rows.items kids.items subs.items },
+}
+
+impl RowStore {
+    ghost use Rattle.std.specs.Prelude.{◌≡◌, ◌↔◌, ◌<◌, ◌-◌, [], length, take, option_map, option_and_then, slice_get, IfOk, OnErr, IsSome, IsTrue, Some};
+    ghost use Rattle.std.specs.List.{All};
+    ghost use Rattle.trees.specs.Things.{Kept, kind_of, made, meanings};
+    ghost use Rattle.rows.specs.Views.{IsSubst, IsOfKind, sub_meaning, sub_names};
+    ghost use Rattle.rows.specs.Held.{held_meaning, is_alone, IsSizeAt};
+    ghost use Rattle.rows.specs.Shown.{things, store_means};
+
+    /// No rows.
+    pub fn new(alloc: Global) -> RowStore
+        ensures { things result ≡ [] }
+    {
+        RowStore {
+            rows: Vec::new(alloc),
+            kids: Vec::new(alloc),
+            subs: Vec::new(alloc),
+        }
+    }
+
+    /// The number of rows.
+    pub fn len(&self) -> usize
+        ensures { result ≡ length (things self.now) }
+    {
+        self.rows.len()
+    }
+
+    /// What kind of thing a row means.
+    pub fn kind(&self, row: u64) -> PartKind
+        requires { row < length (things self.now) }
+        ensures { option_map kind_of (slice_get (things self.now) row) ≡ Some result }
+    {
+        self.row(row).kind()
+    }
+
+    /// Whether there is a row of this number that means a thing of this kind.
+    pub fn is_of_kind(&self, row: u64, kind: PartKind) -> bool
+        ensures { IsTrue result ↔ IsOfKind kind (slice_get (things self.now) row) }
+    {
+        row < self.len() as u64 && self.kind(row) == kind
+    }
+
+    /// Keeps the first rows alone.
+    pub fn truncate(&mut self, len: usize)
+        ensures { things self.new ≡ take len (things self.old) }
+    {
+        while self.rows.len() > len {
+            self.drop_last();
+        }
+    }
+
+    /// Drops the last row, if there is one, with what it holds beside it.
+    fn drop_last(&mut self)
+        ensures { things self.new ≡ take (length (things self.old) - 1) (things self.old) }
+    {
+        let Some(last) = self.rows.pop() else {
+            return;
+        };
+        let kids = self.kids.len() - last.kids_beside();
+        let subs = self.subs.len() - last.subs_beside();
+        self.kids.truncate(kids);
+        self.subs.truncate(subs);
+    }
+
+    /// The row of that number.
+    fn row(&self, at: u64) -> Held
+        requires { at < length (things self.now) }
+        ensures { slice_get self.now.rows.items at ≡ Some result }
+    {
+        self.rows[at as usize]
+    }
+
+    /// The substitution of a row.
+    fn sub(&self, id: SubId) -> HeldSub
+        requires { IsSubst (store_means self.now id.0) }
+        ensures meaning { store_means self.now id.0 ≡ sub_meaning (store_means self.now) result.row }
+        ensures earlier { All (λ k. k < id.0) (sub_names result.row) }
+        ensures size { IsSizeAt id.0 (store_means self.now id.0) result.size }
+    {
+        match self.row(id.0) {
+            Held::Subst(at) => self.subs[at],
+            _ => unreachable!(),
+        }
+    }
+
+    /// A new row that holds nothing beside it.
+    fn add_alone(&mut self, row: Held) -> Result<u64, AllocError>
+        requires alone { IsTrue (is_alone row) }
+        requires means { IsSome (held_meaning (store_means self.old) [] [] row) }
+        ensures kept { Kept (store_means self.old) (store_means self.new) }
+        ensures meaning { IfOk result (λ at. store_means self.new at ≡ held_meaning (store_means self.old) [] [] row) }
+        ensures err { OnErr result (things self.new ≡ things self.old) }
+    {
+        let at = self.rows.len() as u64;
+        self.rows.push(row)?;
+        Ok(at)
+    }
+
+    /// A new row of a substitution of this size.
+    fn add_sub(&mut self, row: SubRow, size: HeldSize) -> Result<u64, AllocError>
+        requires means { IsSome (sub_meaning (store_means self.old) row) }
+        requires size { IsSizeAt (length (things self.old)) (sub_meaning (store_means self.old) row) size }
+        ensures kept { Kept (store_means self.old) (store_means self.new) }
+        ensures meaning { IfOk result (λ at. store_means self.new at ≡ sub_meaning (store_means self.old) row) }
+        ensures err { OnErr result (things self.new ≡ things self.old) }
+    {
+        let number = self.rows.len() as u64;
+        let at = self.subs.len();
+        self.subs.push(HeldSub { row, size })?;
+        match self.rows.push(Held::Subst(at)) {
+            Ok(()) => Ok(number),
+            Err(_) => {
+                self.subs.truncate(at);
+                Err(AllocError)
+            }
+        }
+    }
+
+    /// A new row of an operator over the rows of its kids.
+    fn add_make(&mut self, op: Op, kids: &[u64]) -> Result<u64, AllocError>
+        requires { IsSome (option_and_then (made op) (meanings (store_means self.old) kids.now)) }
+        ensures kept { Kept (store_means self.old) (store_means self.new) }
+        ensures meaning { IfOk result (λ at. store_means self.new at ≡
+            option_and_then (made op) (meanings (store_means self.old) kids.now)) }
+        ensures err { OnErr result (things self.new ≡ things self.old) }
+    {
+        let number = self.rows.len() as u64;
+        let at = self.kids.len();
+        self.kids.extend_from_slice(kids)?;
+        match self.rows.push(Held::Make(op, at)) {
+            Ok(()) => Ok(number),
+            Err(_) => {
+                self.kids.truncate(at);
+                Err(AllocError)
+            }
+        }
+    }
+}
+
+impl Rows for RowStore {
+    ghost use Rattle.rows.specs.Shown.{store_means};
+
+    ghost means = { store_means };
+}
+
+impl Maker for RowStore {
+    ghost spare = { λ s. 0 };
+
+    fn var(&mut self, index: u32) -> Result<u64, AllocError> {
+        Ok(self.add_alone(Held::Var(index))?)
+    }
+
+    fn make(&mut self, op: Op, kids: &[u64]) -> Result<u64, AllocError> {
+        Ok(self.add_make(op, kids)?)
+    }
+
+    fn instance(&mut self, term: u64, sub: u64) -> Result<u64, AllocError> {
+        Ok(self.add_alone(Held::Instance(TermId(term), SubId(sub)))?)
+    }
+
+    fn shift(&mut self, by: u64) -> Result<u64, AllocError> {
+        Ok(self.add_sub(SubRow::Shift(by), HeldSize::of_shift(by))?)
+    }
+
+    fn push(&mut self, sub: u64, term: u64) -> Result<u64, AllocError> {
+        let size = self.sub(SubId(sub)).size.with_tree();
+        Ok(self.add_sub(SubRow::Push(SubId(sub), TermId(term)), size)?)
+    }
+
+    fn then(&mut self, first: u64, second: u64) -> Result<u64, AllocError> {
+        let size = self.sub(SubId(first)).size;
+        let size = size.then(self.sub(SubId(second)).size);
+        Ok(self.add_sub(SubRow::Then(SubId(first), SubId(second)), size)?)
+    }
+
+    fn ctx_nil(&mut self) -> Result<u64, AllocError> {
+        Ok(self.add_alone(Held::CtxNil)?)
+    }
+
+    fn ctx_var(&mut self, ctx: u64, ty: u64) -> Result<u64, AllocError> {
+        Ok(self.add_alone(Held::CtxVar(CtxId(ctx), TermId(ty)))?)
+    }
+
+    fn ctx_name(&mut self, ctx: u64) -> Result<u64, AllocError> {
+        Ok(self.add_alone(Held::CtxName(CtxId(ctx)))?)
+    }
+
+    fn ctx_face(&mut self, ctx: u64, face: u64) -> Result<u64, AllocError> {
+        Ok(self.add_alone(Held::CtxFace(CtxId(ctx), TermId(face)))?)
+    }
+}
+
+impl Reader for RowStore {
+    fn term(&self, id: TermId) -> TermRow<'_> {
+        match self.row(id.0) {
+            Held::Var(index) => TermRow::Var(index),
+            Held::Make(op, at) => TermRow::Make(op, &self.kids[at..at + kid_count(op) as usize]),
+            Held::Instance(term, sub) => TermRow::Instance(term, sub),
+            _ => unreachable!(),
+        }
+    }
+
+    fn subst(&self, id: SubId) -> SubRow {
+        self.sub(id).row
+    }
+
+    fn size(&self, id: SubId) -> SubSize {
+        let HeldSize { pushed, shift } = self.sub(id).size;
+        SubSize {
+            pushed: u64::try_from(pushed).ok(),
+            shift,
+        }
+    }
+
+    fn context(&self, id: CtxId) -> CtxRow {
+        match self.row(id.0) {
+            Held::CtxNil => CtxRow::Nil,
+            Held::CtxVar(ctx, ty) => CtxRow::Var(ctx, ty),
+            Held::CtxName(ctx) => CtxRow::Name(ctx),
+            Held::CtxFace(ctx, face) => CtxRow::Face(ctx, face),
+            _ => unreachable!(),
+        }
+    }
+}

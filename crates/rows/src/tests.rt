@@ -1,0 +1,140 @@
+//! Rows in memory, as they are made, read, measured and cut back.
+
+use crate::{CtxId, CtxRow, Reader, Row, RowStore, SubId, SubRow, SubSize, TermId, TermRow};
+use std::alloc::Global;
+use std::process::Abort;
+use std::test::Fail;
+use trees::{Op, PartKind};
+
+const fn shift(by: u64) -> Row<'static> {
+    Row::Subst(SubRow::Shift(by))
+}
+
+const fn push(sub: u64, term: u64) -> Row<'static> {
+    Row::Subst(SubRow::Push(SubId(sub), TermId(term)))
+}
+
+const fn then(first: u64, second: u64) -> Row<'static> {
+    Row::Subst(SubRow::Then(SubId(first), SubId(second)))
+}
+
+const fn face(ctx: u64, face: u64) -> Row<'static> {
+    Row::Context(CtxRow::Face(CtxId(ctx), TermId(face)))
+}
+
+fn filled(rt: &impl Abort, alloc: Global, table: &[Row<'_>]) -> Result<RowStore, Fail> {
+    let mut rows = RowStore::new(alloc);
+    for row in table {
+        assert!(rt; rows.fits(row));
+        rows.add(*row)?;
+    }
+    Ok(rows)
+}
+
+#[test]
+fn rows_are_read_as_they_were_made(rt: HostRuntime) -> Result<(), Fail> {
+    let table = [
+        Row::Term(TermRow::Var(7)),
+        Row::Term(TermRow::Make(Op::Lam, &[0, 0])),
+        shift(4),
+        push(2, 1),
+        Row::Context(CtxRow::Nil),
+        face(4, 0),
+    ];
+    let mut rows = filled(&rt, rt.alloc(), &table)?;
+    assert!(rt; rows.is_term(TermId(1)) && rows.is_subst(SubId(3)) && rows.is_context(CtxId(5)));
+    assert!(rt; matches!(rows.term(TermId(1)), TermRow::Make(Op::Lam, &[0, 0])));
+    assert!(rt; matches!(rows.subst(SubId(3)), SubRow::Push(SubId(2), TermId(1))));
+    assert!(rt; matches!(rows.context(CtxId(5)), CtxRow::Face(CtxId(4), TermId(0))));
+    assert_eq!(rt; rows.len(), 6);
+    assert_eq!(rt; rows.kind(3), PartKind::Subst);
+    // the first rows alone, and others in the place of those that are gone
+    rows.truncate(1);
+    assert!(rt; rows.len() == 1 && !rows.is_of_kind(1, PartKind::Term));
+    let other = Row::Term(TermRow::Make(Op::Suc, &[0]));
+    assert!(rt; rows.fits(&other));
+    assert_eq!(rt; rows.add(other)?, 1);
+    assert!(rt; rows.is_term(TermId(1)));
+    assert!(rt; matches!(rows.term(TermId(1)), TermRow::Make(Op::Suc, &[0])));
+    Ok(())
+}
+
+#[test]
+fn rows_fit_that_name_rows_of_the_right_kinds(rt: HostRuntime) -> Result<(), Fail> {
+    let rows = filled(
+        &rt,
+        rt.alloc(),
+        &[
+            Row::Term(TermRow::Var(0)),
+            shift(1 << 62),
+            Row::Context(CtxRow::Nil),
+        ],
+    )?;
+    for (row, fits) in [
+        (Row::Term(TermRow::Make(Op::Pair, &[0, 0])), true),
+        (Row::Term(TermRow::Make(Op::Pair, &[0])), false),
+        (Row::Term(TermRow::Make(Op::Pair, &[0, 1])), false),
+        (Row::Term(TermRow::Instance(TermId(0), SubId(1))), true),
+        (Row::Term(TermRow::Instance(TermId(1), SubId(0))), false),
+        (shift((1 << 62) + 1), false),
+        (push(1, 3), false),
+        (then(1, 1), true),
+        (then(1, 0), false),
+        (Row::Context(CtxRow::Name(CtxId(0))), false),
+        (Row::Context(CtxRow::Var(CtxId(2), TermId(0))), true),
+        (face(2, 1), false),
+    ] {
+        assert_eq!(rt; rows.fits(&row), fits, "at {row:?}");
+    }
+    Ok(())
+}
+
+#[test]
+fn substitutions_know_their_sizes(rt: HostRuntime) -> Result<(), Fail> {
+    let table = [
+        Row::Term(TermRow::Var(0)),
+        shift(3),
+        push(1, 0),
+        push(2, 0),
+        // two trees and a shift by 3, of which the first two go and one more is raised over; and the other way round
+        then(1, 3),
+        then(3, 1),
+        then(3, 3),
+    ];
+    let mut rows = filled(&rt, rt.alloc(), &table)?;
+    for (sub, pushed, shift) in [
+        (1, 0, 3),
+        (2, 1, 3),
+        (3, 2, 3),
+        (4, 0, 4),
+        (5, 2, 6),
+        (6, 2, 4),
+    ] {
+        assert!(rt; rows.is_subst(SubId(sub)));
+        let pushed = Some(pushed);
+        assert_eq!(rt;
+            rows.size(SubId(sub)),
+            SubSize { pushed, shift },
+            "at {sub}"
+        );
+    }
+    // each twice the one before: one tree on no shift, 64 and 200 times doubled
+    let mut last = 8;
+    for row in [shift(0), push(7, 0)] {
+        assert!(rt; rows.fits(&row));
+        last = rows.add(row)?;
+    }
+    for doublings in 1..=200u32 {
+        let row = then(last, last);
+        assert!(rt; rows.fits(&row));
+        last = rows.add(row)?;
+        assert!(rt; rows.is_subst(SubId(last)));
+        let pushed = 1u64.checked_shl(doublings);
+        assert_eq!(rt;
+            rows.size(SubId(last)),
+            SubSize { pushed, shift: 0 },
+            "at {doublings}"
+        );
+    }
+    Ok(())
+}

@@ -1,8 +1,0 @@
-use Rattle.session.proofs.ExclusionLemmas.{one_verdict, one_answer}
-use Rattle.session.proofs.answer.answers_exclude_each_other.Goals as goal
-
-pub returns-clause-verdict : goal.returns-clause-verdict
-returns-clause-verdict c = one_verdict
-
-pub returns-clause-answer : goal.returns-clause-answer
-returns-clause-answer c = one_answer

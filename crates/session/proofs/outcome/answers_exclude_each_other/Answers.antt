@@ -1,0 +1,8 @@
+use Rattle.session.proofs.ExclusionLemmas.{one_verdict, one_answer}
+use Rattle.session.proofs.outcome.answers_exclude_each_other.Goals as goal
+
+pub returns-clause-verdict : goal.returns-clause-verdict
+returns-clause-verdict c = one_verdict
+
+pub returns-clause-answer : goal.returns-clause-answer
+returns-clause-answer c = one_answer

@@ -1,0 +1,76 @@
+// How commands end, the texts of that and the statuses.
+ghost use Rattle.std.specs.Prelude.{◌≡◌, IfOk, string_bytes};
+ghost use Rattle.session.specs.Answers.{plain_text, status_of, OneVerdict, OneAnswer};
+
+use replay::Verdict;
+use std::alloc::{AllocError, Global};
+
+/// The status that the program ends with.
+#[derive(Clone, Copy, Debug, PartialEq, Eq)]
+pub enum Status {
+    /// The job was done.
+    Yes,
+    /// The file was refused.
+    No,
+    /// The words are no command.
+    Usage,
+    /// A read or a write failed.
+    Fault,
+    /// A question reached its budget.
+    Spent,
+    /// It was out of memory.
+    Memory,
+}
+
+/// How a command ended. Out of memory is none of these.
+#[derive(Drop)]
+pub(crate) enum Outcome {
+    /// What was found of the rows of a derivation file.
+    Judged(Verdict),
+    /// The file at the path is not there.
+    MissingFile(String),
+    /// A file could not be read.
+    ReadFault,
+    /// The words are no command.
+    Usage,
+}
+
+const USAGE: &str =
+    "usage: ctt check MODULE [--turns N] [--json] | replay FILE [--of MODULE] | normal MODULE NAME [--turns N] | prompt MODULE [--turns N] | make N\n";
+
+impl Outcome {
+    /// The status once the text is printed.
+    pub(crate) fn status(&self) -> Status
+        ensures { result ≡ status_of self.now }
+    {
+        match self {
+            Outcome::Judged(Verdict::Yes { rows: _, roots: _ }) => Status::Yes,
+            Outcome::Judged(Verdict::No { row: _ }) => Status::No,
+            Outcome::MissingFile(_) => Status::No,
+            Outcome::ReadFault => Status::Fault,
+            Outcome::Usage => Status::Usage,
+        }
+    }
+
+    /// The text in plain words, with its newline. The only error is out of memory.
+    pub(crate) fn text(&self, alloc: Global) -> Result<String, AllocError>
+        ensures { IfOk result (λ shown. string_bytes shown ≡ plain_text self.now) }
+    {
+        match self {
+            Outcome::Judged(Verdict::Yes { rows, roots }) => {
+                format!(in alloc; "yes: {rows} rows, {roots} roots\n")
+            }
+            Outcome::Judged(Verdict::No { row }) => format!(in alloc; "no: row {row}\n"),
+            Outcome::MissingFile(path) => format!(in alloc; "no: MissingFile in {path}\n"),
+            Outcome::ReadFault => String::from_str(alloc, "fault: ReadFault\n"),
+            Outcome::Usage => String::from_str(alloc, USAGE),
+        }
+    }
+}
+
+/// A law on the answers, and no code: of one file there is one verdict, and where it is told what is
+/// held, a replay of a path has one answer, but for a fault of reading and out of memory.
+pub fn answers_exclude_each_other()
+    ensures verdict { OneVerdict }
+    ensures answer { OneAnswer }
+{}
