@@ -3,8 +3,8 @@ ghost use Rattle.std.specs.Prelude.{◌≡◌, IfOk};
 
 use std::alloc::AllocError;
 
-/// Things that are worth something at each place, as a formula is under each valuation, and that meet and join there as
-/// what they are worth does.
+/// Things that are worth something at each place, as a formula is under each valuation, and that
+/// meet and join there as what they are worth does.
 pub trait Lattice: Drop {
     /// Where a thing is worth something.
     ghost Place: { Type 0 };

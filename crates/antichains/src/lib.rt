@@ -1,9 +1,12 @@
-//! Sums of products in normal form, whatever their elements are: each product is a strictly sorted list, and of the sorted
-//! products none contains another. Such a list is the only one with its truth.
+//! Sums of products in normal form, whatever their elements are: each product is a strictly sorted
+//! list, and of the sorted products none contains another. Such a list is the only one with its
+//! truth.
 //!
-//! The sum `ab + b + ca + bc` is `ac + b`: `b` is within two others. It joins with `a` to `a + b` and meets it in `ab + ac`.
+//! The sum `ab + b + ca + bc` is `ac + b`: `b` is within two others. It joins with `a` to `a + b`
+//! and meets it in `ab + ac`.
 //!
-//! What is made of such sums is a `Lattice`, and a `Stack` of it takes a tree one operator at a time.
+//! What is made of such sums is a `Lattice`, and a `Stack` of it takes a tree one operator at a
+//! time.
 #![tactic(auto)]
 
 pub mod elements;

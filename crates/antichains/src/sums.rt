@@ -1,5 +1,6 @@
 // Sums of products in normal form.
-ghost use Rattle.std.specs.Prelude.{◌≡◌, ◌↔◌, ◌⊎◌, ◌&&◌, ◌||◌, [], List, Any, Contains, Bool, IsTrue, IfOk, length};
+ghost use Rattle.std.specs.Prelude.{◌≡◌, ◌↔◌, ◌⊎◌, ◌&&◌, ◌||◌, [], List, Any};
+ghost use Rattle.std.specs.Prelude.{Contains, Bool, IsTrue, IfOk, length};
 ghost use Rattle.std.specs.List.Sorted.{IsNonDecreasingBy};
 ghost use Rattle.antichains.specs.Antichains.{HaveSameTruth, IsNormal, IsWithin, some_all};
 ghost use Rattle.antichains.specs.Reductions.{IsReduced};
@@ -34,8 +35,8 @@ impl<T: Element> Antichain<T> {
         }
     }
 
-    /// The normal form of the sum of these products. It takes two sorts, and a test of containment for each product with each
-    /// that stays and is no longer.
+    /// The normal form of the sum of these products. It takes two sorts, and a test of containment
+    /// for each product with each that stays and is no longer.
     pub fn from_products(mut products: Vec<Product<T>>) -> Result<Antichain<T>, AllocError>
         ensures truth { IfOk result (λ sum. HaveSameTruth sum products.items) }
         ensures among { IfOk result (λ sum. IsWithin sum products.items) }
@@ -79,7 +80,8 @@ impl<T: Element> Antichain<T> {
         Antichain::from_products(products)
     }
 
-    /// The sum of the products of one of each: at m and n products m * n merges, and one normal form.
+    /// The sum of the products of one of each: at m and n products m * n merges, and one normal
+    /// form.
     pub fn meet(&self, other: &Antichain<T>) -> Result<Antichain<T>, AllocError>
         ensures { IfOk result (λ sum. (test : T → Bool) →
             some_all test sum ≡ (some_all test self.now && some_all test other.now)) }

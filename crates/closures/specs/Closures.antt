@@ -1,5 +1,6 @@
 -- What closures and their heads mean, and when they mean something.
-use Rattle.std.specs.Prelude.{◌≡◌, ℕ, zero, suc, ◌+◌, ◌-◌, ◌^◌, ◌<◌, ◌≤◌, ◌⊎◌, List, [], ◌∷◌, Option, Some, None, map, option_and_then}
+use Rattle.std.specs.Prelude.{◌≡◌, ℕ, zero, suc, ◌+◌, ◌-◌, ◌^◌, ◌<◌, ◌≤◌, ◌⊎◌, List}
+use Rattle.std.specs.Prelude.{[], ◌∷◌, Option, Some, None, map, option_and_then}
 use Rattle.std.specs.List.{All}
 use Rattle.trees.specs.declared.op.Op.{Op}
 use Rattle.trees.specs.Operators.{binds_of}
@@ -52,7 +53,8 @@ found_meaning f known (found.Tree c) = closure_meaning f known c
 
 -- what a variable becomes that has met one substitution
 abbrev pub entered_meaning : Meanings → List (List Waiting) → Entered → Option Thing
-entered_meaning f known (entered.Past k environment) = variable_meaning f (listed known environment) k
+entered_meaning f known (entered.Past k environment) =
+    variable_meaning f (listed known environment) k
 entered_meaning f known (entered.Tree c) = closure_meaning f known c
 
 -- what each kid of an operator means, from the kid `at` on, each under its binders
@@ -78,29 +80,34 @@ IsDelayed f (Under row) = IsSubst (f row.0)
 IsDelayed f (Raised n) = Unit {0}
 
 -- the environment names nodes, substitutions wait there, and none waits under more than n binders
-pub record Stands (f : Meanings) (known : List (List Waiting)) (n : ℕ) (environment : Environment) : Type 0 where
+pub record Stands (f : Meanings) (known : List (List Waiting)) (n : ℕ) (environment : Environment) :
+    Type 0 where
   pub within : IsWithin known environment
   pub substs : All (λ w. IsDelayed f w.delayed) (listed known environment)
   pub shallow : All (λ w. w.depth ≤ n) (listed known environment)
 
 -- the same of an environment that waits under `lift` more binders, of which there are at most n
-pub record StandsUnder (f : Meanings) (known : List (List Waiting)) (n lift : ℕ) (after : Environment) : Type 0 where
+pub record StandsUnder (f : Meanings) (known : List (List Waiting))
+    (n lift : ℕ) (after : Environment) : Type 0 where
   pub below : lift ≤ n
   pub within : IsWithin known after
   pub substs : All (λ w. IsDelayed f w.delayed) (listed known after)
   pub shallow : All (λ w. w.depth + lift ≤ n) (listed known after)
 
 -- the row is that of a tree, under such an environment
-pub record IsClosure (f : Meanings) (known : List (List Waiting)) (n : ℕ) (c : Closure) : Type 0 where
+pub record IsClosure (f : Meanings) (known : List (List Waiting)) (n : ℕ) (c : Closure) :
+    Type 0 where
   pub row : IsTree (f c.row.0)
   pub environment : Stands f known n c.environment
 
--- The index past all the trees that a substitution pushes, under `lift` binders, if a variable passes them. Where there are
--- 2^64 trees and more it may be that none is told.
+-- The index past all the trees that a substitution pushes, under `lift` binders, if a variable
+-- passes them. Where there are 2^64 trees and more it may be that none is told.
 abbrev pub IsPassed : Option Thing → ℕ → ℕ → Option ℕ → Type 0
 IsPassed (Some (ASubst d)) lift index (Some past) =
-    (lift + count_of d.pushed ≤ index) × (past ≡ index - count_of d.pushed + d.shift) × (d.shift ≤ deepest)
-IsPassed (Some (ASubst d)) lift index None = (index < lift + count_of d.pushed) ⊎ (2 ^ 64 ≤ count_of d.pushed)
+    (lift + count_of d.pushed ≤ index) ×
+    (past ≡ index - count_of d.pushed + d.shift) × (d.shift ≤ deepest)
+IsPassed (Some (ASubst d)) lift index None =
+    (index < lift + count_of d.pushed) ⊎ (2 ^ 64 ≤ count_of d.pushed)
 IsPassed _ lift index past = ⊥
 
 -- the index grew by one shift at most

@@ -1,5 +1,6 @@
 -- The lists that nodes of environments stand for.
-use Rattle.std.specs.Prelude.{◌≡◌, ℕ, suc, ◌+◌, ◌-◌, ◌^◌, nat_le, Bool, true, ◌&&◌, IsTrue, List, [], ◌∷◌, length, slice_index_or}
+use Rattle.std.specs.Prelude.{◌≡◌, ℕ, suc, ◌+◌, ◌-◌, ◌^◌, nat_le, Bool, true, ◌&&◌}
+use Rattle.std.specs.Prelude.{IsTrue, List, [], ◌∷◌, length, slice_index_or}
 use Rattle.rows.specs.Tables.{built}
 use Rattle.closures.specs.declared.environments.Delayed.{Delayed}
 use Rattle.closures.specs.declared.environments.Node.{Node}

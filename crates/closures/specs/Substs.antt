@@ -23,11 +23,13 @@ abbrev pub waiting_substs : Meanings → List Waiting → List Subst
 waiting_substs f ws = map (λ w. delayed_subst f w.delayed) ws
 
 abbrev pub subst_closure_meaning : Meanings → List (List Waiting) → SubstClosure → Option Thing
-subst_closure_meaning f known c = followed_by (f c.row.0) (waiting_substs f (listed known c.environment))
+subst_closure_meaning f known c =
+    followed_by (f c.row.0) (waiting_substs f (listed known c.environment))
 
 abbrev pub subst_head_meaning : Meanings → List (List Waiting) → SubstHead → Option Thing
 subst_head_meaning f known (Shift n) = Some (ASubst (shift_by n))
-subst_head_meaning f known (Push rest c) = both pushed_on (subst_closure_meaning f known rest) (closure_meaning f known c)
+subst_head_meaning f known (Push rest c) =
+    both pushed_on (subst_closure_meaning f known rest) (closure_meaning f known c)
 
 -- the substitution of a row waits, under no binder
 pub record IsPlain (w : Waiting) : Type 0 where
@@ -40,7 +42,8 @@ pub record IsPlainSubst (f : Meanings) (w : Waiting) : Type 0 where
   pub plain : IsPlain w
   pub subst : IsSubst (f plain.row.0)
 
-pub record IsSubstClosure (f : Meanings) (known : List (List Waiting)) (c : SubstClosure) : Type 0 where
+pub record IsSubstClosure (f : Meanings) (known : List (List Waiting)) (c : SubstClosure) :
+    Type 0 where
   pub row : IsSubst (f c.row.0)
   pub within : IsWithin known c.environment
   pub plain : All (IsPlainSubst f) (listed known c.environment)
@@ -50,7 +53,8 @@ SubstHeadStands f known (Shift n) = Unit {0}
 SubstHeadStands f known (Push rest c) = IsSubstClosure f known rest × IsClosure f known 0 c
 
 -- the substitution that waits first, and what waits after it
-pub record WaitsFirst (known : List (List Waiting)) (environment : Environment) (row : SubId) (rest : Environment) : Type 0 where
+pub record WaitsFirst (known : List (List Waiting)) (environment : Environment)
+    (row : SubId) (rest : Environment) : Type 0 where
   pub list : listed known environment ≡ waiting 0 (Under row) ∷ listed known rest
   pub node : ℕ
   pub there : slice_get known node ≡ Some (waiting 0 (Under row) ∷ listed known rest)

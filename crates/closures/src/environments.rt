@@ -32,8 +32,8 @@ pub struct Node {
     pub rest: Environment,
 }
 
-/// The nodes of environments, each after those that it names. Equal environments have one node. Contracts see the list that
-/// each node stands for. After out of memory the nodes are as before.
+/// The nodes of environments, each after those that it names. Equal environments have one node.
+/// Contracts see the list that each node stands for. After out of memory the nodes are as before.
 #[derive(Drop)]
 pub struct Environments {
     nodes: IndexSet<Node>,
@@ -98,7 +98,8 @@ impl Environments {
     pub fn deeper(&self, environment: Environment, by: u64) -> Environment
         requires within { IsWithin (lists self.now) environment }
         requires shallow { All (λ w. w.depth + by ≤ deepest) (listed (lists self.now) environment) }
-        ensures list { listed (lists self.now) result ≡ deepened by (listed (lists self.now) environment) }
+        ensures list { listed (lists self.now) result ≡
+            deepened by (listed (lists self.now) environment) }
         ensures within { IsWithin (lists self.now) result }
     {
         match environment {

@@ -24,7 +24,8 @@ pub enum Head<'a> {
     Make(Op, &'a [u64], Environment),
 }
 
-/// Opens a closure: instances are met and variables looked up, until a variable stays or an operator comes.
+/// Opens a closure: instances are met and variables looked up, until a variable stays or an
+/// operator comes.
 pub fn head_of<'a, R: Reader>(
     rows: &'a R,
     environments: &mut Environments,

@@ -5,7 +5,8 @@ ghost use Rattle.std.specs.List.{All};
 ghost use Rattle.rows.specs.Tables.{Grows};
 ghost use Rattle.closures.specs.Environments.{listed, IsWithin};
 ghost use Rattle.closures.specs.Shown.{lists};
-ghost use Rattle.closures.specs.Substs.{IsPlain, IsFirst, IsSubstClosure, SubstHeadStands, subst_closure_meaning, subst_head_meaning};
+ghost use Rattle.closures.specs.Substs.{IsPlain, IsFirst, IsSubstClosure, SubstHeadStands};
+ghost use Rattle.closures.specs.Substs.{subst_closure_meaning, subst_head_meaning};
 
 use crate::closure::Closure;
 use crate::environments::{Delayed, Environment, Environments};
@@ -61,7 +62,8 @@ fn first_waiting(
     }
 }
 
-/// Opens a substitution: substitutions that come one after another are carried out until a shift or a push stands outermost.
+/// Opens a substitution: substitutions that come one after another are carried out until a shift or
+/// a push stands outermost.
 pub fn subst_head<R: Reader>(
     rows: &R,
     environments: &mut Environments,

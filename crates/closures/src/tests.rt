@@ -65,7 +65,8 @@ fn variable_at(
     Ok((index, environments.len()))
 }
 
-/// The head of a kid of a kid and so on of the tree of a row: the index of a variable, or an operator.
+/// The head of a kid of a kid and so on of the tree of a row: the index of a variable, or an
+/// operator.
 fn head_along(
     rt: &impl Abort,
     alloc: Global,
@@ -182,8 +183,8 @@ fn indices_grow_past_64_bits(rt: HostRuntime) -> Result<(), Fail> {
 
 #[test]
 fn operators_open_under_binders(rt: HostRuntime) -> Result<(), Fail> {
-    // 0 becomes the variable 7 and the others are raised by 4, over an abstraction or two; at 10 and 11 it becomes an abstraction
-    // whose body is the variable 1, looked up under a binder
+    // 0 becomes the variable 7 and the others are raised by 4, over an abstraction or two; at 10
+    // and 11 it becomes an abstraction whose body is the variable 1, looked up under a binder
     let table = [
         make(Op::U, &[]),
         var(0),
@@ -203,7 +204,8 @@ fn operators_open_under_binders(rt: HostRuntime) -> Result<(), Fail> {
         instance(8, 6),
         instance(9, 6),
         instance(11, 6),
-        // 16 and 17: where the abstraction is pushed; an instance below a binder under a substitution that waits
+        // 16 and 17: where the abstraction is pushed; an instance below a binder under a
+        // substitution that waits
         instance(8, 10),
         instance(1, 6),
         make(Op::Lam, &[0, 17]),
@@ -225,7 +227,8 @@ fn operators_open_under_binders(rt: HostRuntime) -> Result<(), Fail> {
         (16, &[1], Err(Op::Lam)),
         (16, &[1, 1], Ok(2)),
         (16, &[1, 0], Err(Op::U)),
-        // 0 is bound below the binder: the inner instance takes it to 7, which the outer one takes past its tree
+        // 0 is bound below the binder: the inner instance takes it to 7, which the outer one takes
+        // past its tree
         (19, &[1], Ok(10)),
         (21, &[1], Ok(12)),
         (18, &[1], Ok(7)),
@@ -253,7 +256,8 @@ fn long_chains_open_in_the_time_of_their_rows(rt: HostRuntime) -> Result<(), Fai
         variable_at(&rt, rt.alloc(), &rows, last)?,
         (10_000, 10_000)
     );
-    // each substitution twice the one before: past 2^20 trees and fewer, and among 2^21 and more, each of which is zero
+    // each substitution twice the one before: past 2^20 trees and fewer, and among 2^21 and more,
+    // each of which is zero
     let mut sub = 4;
     for doublings in 1..=40u32 {
         let twice = Row::Subst(SubRow::Then(SubId(sub), SubId(sub)));
@@ -289,13 +293,15 @@ fn substitutions_open_to_shifts_or_pushes(rt: HostRuntime) -> Result<(), Fail> {
         // 6 and 7: one tree on a shift by 4, and two
         push(5, 0),
         push(6, 1),
-        // 8 to 12: shifts one after another; a shift drops trees, and what waits after it takes what is left of it
+        // 8 to 12: shifts one after another; a shift drops trees, and what waits after it takes
+        // what is left of it
         then(3, 4),
         then(2, 6),
         then(4, 6),
         then(2, 7),
         then(3, 7),
-        // 13 to 15: what comes later meets the tree; a second `then`; a chain that drops two of three trees
+        // 13 to 15: what comes later meets the tree; a second `then`; a chain that drops two of
+        // three trees
         then(6, 4),
         then(12, 3),
         then(6, 7),

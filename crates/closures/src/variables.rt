@@ -6,7 +6,9 @@ ghost use Rattle.rows.specs.Views.{IsSubst};
 ghost use Rattle.rows.specs.Tables.{Grows};
 ghost use Rattle.closures.specs.Shown.{lists};
 ghost use Rattle.closures.specs.Environments.{deepest, listed, deepened, waiting, IsWithin};
-ghost use Rattle.closures.specs.Closures.{Stands, StandsUnder, EnteredStands, FoundStands, IsPassed, IsNear, raised_list, variable_meaning, entered_meaning, found_meaning};
+ghost use Rattle.closures.specs.Closures.{Stands, StandsUnder, EnteredStands, FoundStands};
+ghost use Rattle.closures.specs.Closures.{IsPassed, IsNear, raised_list, variable_meaning};
+ghost use Rattle.closures.specs.Closures.{entered_meaning, found_meaning};
 ghost use Rattle.closures.specs.Weights.{row_weight, weight_of, entered_weight, FoundLess};
 
 use crate::closure::Closure;
@@ -52,7 +54,8 @@ fn raised(
     Ok(environments.push(Delayed::Raised(lift), rest)?)
 }
 
-/// The index past all the trees that a substitution pushes, under `lift` binders, if a variable passes them.
+/// The index past all the trees that a substitution pushes, under `lift` binders, if a variable
+/// passes them.
 pub fn passed<R: Reader>(rows: &R, subst: SubId, index: u128, lift: u64) -> Option<u128>
     requires subst { IsSubst (R.means rows.now subst.0) }
     requires above { lift ≤ index }
@@ -67,8 +70,9 @@ pub fn passed<R: Reader>(rows: &R, subst: SubId, index: u128, lift: u64) -> Opti
     Some(index - trees + u128::from(shift))
 }
 
-/// A variable meets the substitution of a row under `lift` binders, which do not bind it, before what waits after these. It
-/// passes in one step where its tree is not among those that are pushed, so that each row of a chain is met at most once.
+/// A variable meets the substitution of a row under `lift` binders, which do not bind it, before
+/// what waits after these. It passes in one step where its tree is not among those that are pushed,
+/// so that each row of a chain is met at most once.
 fn enter<R: Reader>(
     rows: &R,
     environments: &mut Environments,
@@ -128,7 +132,8 @@ fn pass<R: Reader>(
     lift: u64,
 ) -> Result<Entered, AllocError>
     requires fits { index + 2 ^ 64 ≤ 2 ^ 128 }
-    requires stands { Stands (R.means rows.now) (lists environments.old) deepest (Environment.Node at lift) }
+    requires stands { Stands (R.means rows.now)
+        (lists environments.old) deepest (Environment.Node at lift) }
     ensures grows { Grows (lists environments.old) (lists environments.new) }
     ensures meaning { let f = R.means rows.now in
         IfOk result (λ e. entered_meaning f (lists environments.new) e

@@ -16,4 +16,5 @@ AreOfKinds f _ _ = ⊥
 
 -- the rows of each claim of the form that means a judgement mean things of these kinds
 abbrev pub AreKindsOf : JudgementForm → List PartKind → Type 0
-AreKindsOf form kinds = (f : Meanings) (claim : Claim) → form_of claim ≡ form → IsSome (claimed f claim) → AreOfKinds f kinds (rows_of claim)
+AreKindsOf form kinds = (f : Meanings) (claim : Claim) → form_of claim ≡ form →
+    IsSome (claimed f claim) → AreOfKinds f kinds (rows_of claim)

@@ -21,7 +21,8 @@ pub data Adds (p : Pair) (old new : List Pair) : Type 0 where
   IsNew : new ≡ old ++ p ∷ [] → Adds p old new
 
 -- more pairs, which agree, beside those that were there, exactly where the goal holds
-pub record Asks (f : Meanings) (known : List (List Waiting)) (goal : Type 0) (old new : List Pair) : Type 0 where
+pub record Asks (f : Meanings) (known : List (List Waiting)) (goal : Type 0) (old new : List Pair) :
+    Type 0 where
   pub more : List Pair
   pub grown : new ≡ old ++ more
   pub stand : All (IsPair f known 0) more
@@ -49,10 +50,13 @@ abbrev pub total : Meanings → List (List Waiting) → List Pair → ℕ
 total f known [] = 0
 total f known (p ∷ ps) = pair_size f known p + total f known ps
 
--- a pair was opened: it agrees exactly where the further pairs do, beside smaller ones that were there
-pub record Opens (f : Meanings) (known : List (List Waiting)) (p : Pair) (old new : List Pair) : Type 0 where
+-- a pair was opened: it agrees exactly where the further pairs do, beside smaller ones that were
+-- there
+pub record Opens (f : Meanings) (known : List (List Waiting)) (p : Pair) (old new : List Pair) :
+    Type 0 where
   pub more : List Pair
   pub grown : new ≡ old ++ more
   pub forth : Agrees f known p → All (Agrees f known) more
-  pub back : ((q : Pair) → Contains new q → pair_size f known q < pair_size f known p → Agrees f known q) → Agrees f known p
+  pub back : ((q : Pair) → Contains new q →
+      pair_size f known q < pair_size f known p → Agrees f known q) → Agrees f known p
   pub less : total f known more < pair_size f known p

@@ -10,8 +10,8 @@ use rows::{CtxId, Reader, SubId, TermId};
 use std::alloc::{AllocError, Global};
 use trees::{Claim, PartKind};
 
-/// Compares rows, one question after another, and keeps its memory from one to the next. It holds the environments that a question
-/// has made, and the pairs of trees that it has to look at.
+/// Compares rows, one question after another, and keeps its memory from one to the next. It holds
+/// the environments that a question has made, and the pairs of trees that it has to look at.
 #[derive(Drop)]
 pub struct Comparison {
     environments: Environments,
@@ -35,8 +35,8 @@ impl Comparison {
         }
     }
 
-    /// Whether two rows that mean things of a kind mean the same. Substitutions are the same where the same trees are pushed on the
-    /// same shift: two that do the same to every tree may differ.
+    /// Whether two rows that mean things of a kind mean the same. Substitutions are the same where
+    /// the same trees are pushed on the same shift: two that do the same to every tree may differ.
     pub fn same<R: Reader>(
         &mut self,
         rows: &R,
@@ -46,7 +46,8 @@ impl Comparison {
     ) -> Result<bool, AllocError>
         requires left { IsOfKind kind (R.means rows.now left) }
         requires right { IsOfKind kind (R.means rows.now right) }
-        ensures { let f = R.means rows.now in IfOk result (λ same. IsTrue same ↔ (f left ≡ f right)) }
+        ensures { let f = R.means rows.now in
+            IfOk result (λ same. IsTrue same ↔ (f left ≡ f right)) }
     {
         self.clear();
         if !self.ask(rows, kind, left, right)? {
@@ -96,7 +97,8 @@ impl Comparison {
         requires right { IsTree (R.means rows.now right) }
         ensures environments { self.new.environments ≡ self.old.environments }
         ensures asks { let f = R.means rows.now in OnOk result
-            (Asks f (lists self.new.environments) (f left ≡ f right) self.old.pairs.keys self.new.pairs.keys) }
+            (Asks f (lists self.new.environments) (f left ≡ f right)
+            self.old.pairs.keys self.new.pairs.keys) }
     {
         let pair = Pair {
             left: Closure::of_row(TermId(left)),
@@ -106,8 +108,8 @@ impl Comparison {
         Ok(())
     }
 
-    /// Asks whether the contexts of two rows are the same. The answer is no where they have not the same entries, whatever the
-    /// trees of these.
+    /// Asks whether the contexts of two rows are the same. The answer is no where they have not the
+    /// same entries, whatever the trees of these.
     fn ask_contexts<R: Reader>(
         &mut self,
         rows: &R,
@@ -118,7 +120,8 @@ impl Comparison {
         requires right { IsContext (R.means rows.now right) }
         ensures environments { self.new.environments ≡ self.old.environments }
         ensures yes { let f = R.means rows.now in IfOk result (λ same. same ≡ true →
-            Asks f (lists self.new.environments) (f left ≡ f right) self.old.pairs.keys self.new.pairs.keys) }
+            Asks f (lists self.new.environments) (f left ≡ f right)
+            self.old.pairs.keys self.new.pairs.keys) }
         ensures no { let f = R.means rows.now in
             IfOk result (λ same. same ≡ false → f left ≡ f right → ⊥) }
     {
@@ -138,15 +141,17 @@ impl Comparison {
         Ok(true)
     }
 
-    /// Asks whether the substitutions of two rows are the same: the same trees on the same shift. The answer is no where they have
-    /// not so many trees, or not the same shift.
+    /// Asks whether the substitutions of two rows are the same: the same trees on the same shift.
+    /// The answer is no where they have not so many trees, or not the same shift.
     fn ask_substs<R: Reader>(&mut self, rows: &R, left: u64, right: u64) -> Result<bool, AllocError>
         requires left { IsSubst (R.means rows.now left) }
         requires right { IsSubst (R.means rows.now right) }
-        requires stand { All (IsPair (R.means rows.now) (lists self.old.environments) 0) self.old.pairs.keys }
+        requires stand { All (IsPair (R.means rows.now) (lists self.old.environments) 0)
+            self.old.pairs.keys }
         ensures grows { Grows (lists self.old.environments) (lists self.new.environments) }
         ensures yes { let f = R.means rows.now in IfOk result (λ same. same ≡ true →
-            Asks f (lists self.new.environments) (f left ≡ f right) self.old.pairs.keys self.new.pairs.keys) }
+            Asks f (lists self.new.environments) (f left ≡ f right)
+            self.old.pairs.keys self.new.pairs.keys) }
         ensures no { let f = R.means rows.now in
             IfOk result (λ same. same ≡ false → f left ≡ f right → ⊥) }
     {
@@ -178,10 +183,12 @@ impl Comparison {
     ) -> Result<bool, AllocError>
         requires left { IsOfKind kind (R.means rows.now left) }
         requires right { IsOfKind kind (R.means rows.now right) }
-        requires stand { All (IsPair (R.means rows.now) (lists self.old.environments) 0) self.old.pairs.keys }
+        requires stand { All (IsPair (R.means rows.now) (lists self.old.environments) 0)
+            self.old.pairs.keys }
         ensures grows { Grows (lists self.old.environments) (lists self.new.environments) }
         ensures yes { let f = R.means rows.now in IfOk result (λ same. same ≡ true →
-            Asks f (lists self.new.environments) (f left ≡ f right) self.old.pairs.keys self.new.pairs.keys) }
+            Asks f (lists self.new.environments) (f left ≡ f right)
+            self.old.pairs.keys self.new.pairs.keys) }
         ensures no { let f = R.means rows.now in
             IfOk result (λ same. same ≡ false → f left ≡ f right → ⊥) }
     {
@@ -197,9 +204,11 @@ impl Comparison {
 
     /// Whether all that was asked is so.
     fn agree<R: Reader>(&mut self, rows: &R) -> Result<bool, AllocError>
-        requires { All (IsPair (R.means rows.now) (lists self.old.environments) 0) self.old.pairs.keys }
+        requires { All (IsPair (R.means rows.now) (lists self.old.environments) 0)
+            self.old.pairs.keys }
         ensures { let f = R.means rows.now in
-            IfOk result (λ same. IsTrue same ↔ All (Agrees f (lists self.old.environments)) self.old.pairs.keys) }
+            IfOk result (λ same. IsTrue same ↔
+            All (Agrees f (lists self.old.environments)) self.old.pairs.keys) }
     {
         Ok(all_agree(rows, &mut self.environments, &mut self.pairs)?)
     }

@@ -1,4 +1,5 @@
-//! Comparisons of rows in memory: small ones by a table, and shared and deep ones that must not be written out.
+//! Comparisons of rows in memory: small ones by a table, and shared and deep ones that must not be
+//! written out.
 
 use crate::Comparison;
 use rows::{CtxId, CtxRow, Row, RowStore, SubId, SubRow, TermId, TermRow};
@@ -93,7 +94,8 @@ fn rows_are_compared_by_what_they_mean(rt: HostRuntime) -> Result<(), Fail> {
         shift(2),
         then(4, 5),
         shift(0),
-        // 8 to 13: instances of 0 and of zero by these; 0 becomes zero, and what comes after comes down
+        // 8 to 13: instances of 0 and of zero by these; 0 becomes zero, and what comes after comes
+        // down
         instance(0, 6),
         instance(0, 5),
         instance(3, 6),
@@ -105,13 +107,15 @@ fn rows_are_compared_by_what_they_mean(rt: HostRuntime) -> Result<(), Fail> {
         make(Op::Lam, &[3, 0]),
         instance(14, 11),
         make(Op::Lam, &[3, 3]),
-        // 18 to 22: what is pushed is raised under a binder; kids that differ in the second place alone
+        // 18 to 22: what is pushed is raised under a binder; kids that differ in the second place
+        // alone
         push(7, 2),
         instance(14, 18),
         make(Op::App, &[0, 1]),
         make(Op::App, &[0, 2]),
         make(Op::Pair, &[0, 1]),
-        // 23 to 28: the shift by 1 with 0 pushed does what no shift does; a push, after a shift that drops it
+        // 23 to 28: the shift by 1 with 0 pushed does what no shift does; a push, after a shift
+        // that drops it
         push(4, 0),
         then(4, 23),
         push(7, 0),

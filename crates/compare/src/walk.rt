@@ -1,6 +1,7 @@
 //! The walk over pairs of closures.
 
-ghost use Rattle.std.specs.Prelude.{◌≡◌, ◌↔◌, ◌-◌, ℕ, suc, length, drop, IfOk, OnOk, IsTrue, true, false};
+ghost use Rattle.std.specs.Prelude.{◌≡◌, ◌↔◌, ◌-◌, ℕ, suc, length, drop};
+ghost use Rattle.std.specs.Prelude.{IfOk, OnOk, IsTrue, true, false};
 ghost use Rattle.std.specs.List.{All};
 ghost use Rattle.rows.specs.Tables.{Grows};
 ghost use Rattle.closures.specs.Environments.{deepest};
@@ -42,7 +43,8 @@ fn add_kids<R: Reader>(
         (kids_meant f known op right.now.rows.now right.now.environment)
         pairs.old.keys pairs.new.keys) }
     ensures stand { let f = R.means rows.now in let known = lists environments.now in
-        OnOk result ((n : ℕ) → Stands f known n left.now.environment → Stands f known n right.now.environment
+        OnOk result ((n : ℕ) → Stands f known n left.now.environment →
+        Stands f known n right.now.environment
         → All (IsPair f known (suc n)) (drop (length pairs.old.keys) pairs.new.keys)) }
 {
     for at in 0..kid_count(op) {
@@ -56,7 +58,8 @@ fn add_kids<R: Reader>(
     Ok(())
 }
 
-/// Opens both closures of a pair and adds the pairs of their kids. The answer is no where they differ outermost.
+/// Opens both closures of a pair and adds the pairs of their kids. The answer is no where they
+/// differ outermost.
 fn open_pair<R: Reader>(
     rows: &R,
     environments: &mut Environments,
@@ -66,10 +69,12 @@ fn open_pair<R: Reader>(
     requires { IsPair (R.means rows.now) (lists environments.old) (deepest - 1) pair }
     ensures grows { Grows (lists environments.old) (lists environments.new) }
     ensures yes { let f = R.means rows.now in
-        IfOk result (λ same. same ≡ true → Opens f (lists environments.new) pair pairs.old.keys pairs.new.keys) }
+        IfOk result (λ same. same ≡ true →
+        Opens f (lists environments.new) pair pairs.old.keys pairs.new.keys) }
     ensures stand { let f = R.means rows.now in
         IfOk result (λ same. same ≡ true → (n : ℕ) → IsPair f (lists environments.old) n pair
-        → All (IsPair f (lists environments.new) (suc n)) (drop (length pairs.old.keys) pairs.new.keys)) }
+        → All (IsPair f (lists environments.new) (suc n))
+        (drop (length pairs.old.keys) pairs.new.keys)) }
     ensures no { let f = R.means rows.now in
         IfOk result (λ same. same ≡ false → Agrees f (lists environments.old) pair → ⊥) }
 {

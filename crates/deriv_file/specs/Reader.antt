@@ -17,11 +17,17 @@ line_of reading = take_through 10 reading.rest
 
 -- past that line, which spells the row
 abbrev pub past : Reading → Row → Reading
-past reading row = record { rest = drop_through 10 reading.rest; at = reading.at + 1; version = version_after reading.version row }
+past reading row = record {
+  rest = drop_through 10 reading.rest;
+  at = reading.at + 1;
+  version = version_after reading.version row;
+}
 
 -- what `next` answers, and where the reader then stands
 abbrev pub NextIs : Reading → Reading → Next → Type 0
-NextIs old new (next.Row row) = (0 < length old.rest) × Spells old.version old.at (line_of old) row × (new ≡ past old row)
+NextIs old new (next.Row row) =
+    (0 < length old.rest) × Spells old.version old.at (line_of old) row × (new ≡ past old row)
 NextIs old new next.End = (old.rest ≡ []) × (new ≡ old)
 NextIs old new (next.BadSpelling k) =
-    (0 < length old.rest) × (k ≡ old.at) × ((row : Row) → Spells old.version old.at (line_of old) row → ⊥) × (new ≡ old)
+    (0 < length old.rest) × (k ≡ old.at) ×
+    ((row : Row) → Spells old.version old.at (line_of old) row → ⊥) × (new ≡ old)

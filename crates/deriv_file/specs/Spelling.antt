@@ -1,12 +1,14 @@
 -- The rows of a derivation file, and the one spelling of each.
-use Rattle.std.specs.Prelude.{◌≡◌, ◌<◌, ◌≤◌, ◌^◌, ℕ, List, [], ◌∷◌, ◌++◌, map, length, codes, decimal, IsTrue}
+use Rattle.std.specs.Prelude.{◌≡◌, ◌<◌, ◌≤◌, ◌^◌, ℕ, List, [], ◌∷◌, ◌++◌}
+use Rattle.std.specs.Prelude.{map, length, codes, decimal, IsTrue}
 use Rattle.std.specs.List.{All, join_with_byte}
 use Rattle.trees.specs.Operators.{name_of as operator_name, kids_of}
 use Rattle.trees.specs.Trees.{greatest_shift}
 use Rattle.theory.specs.OperatorNames.{has_operator}
 use Rattle.theory.specs.RuleNames.{name_of as rule_name, kinds_of, premises_of, first_version}
 use Rattle.deriv_file.specs.declared.row.Row.{Row}
-use Rattle.deriv_file.specs.declared.row.Row.TheVariants.{Header, Var, Make, Instance, Shift, Push, CtxNil, CtxVar, Node, Root}
+use Rattle.deriv_file.specs.declared.row.Row.TheVariants.{Header, Var, Make, Instance, Shift}
+use Rattle.deriv_file.specs.declared.row.Row.TheVariants.{Push, CtxNil, CtxVar, Node, Root}
 
 -- the words of a row
 abbrev pub words_of : Row → List (List ℕ)
@@ -18,7 +20,8 @@ words_of (Shift by) = codes "s" ∷ codes "shift" ∷ decimal by ∷ []
 words_of (Push sub term) = codes "s" ∷ codes "push" ∷ map decimal (sub ∷ term ∷ [])
 words_of CtxNil = codes "c" ∷ codes "nil" ∷ []
 words_of (CtxVar ctx ty) = codes "c" ∷ codes "var" ∷ map decimal (ctx ∷ ty ∷ [])
-words_of (Node rule parts premises) = codes "n" ∷ rule_name rule ∷ (map decimal parts ++ map decimal premises)
+words_of (Node rule parts premises) =
+    codes "n" ∷ rule_name rule ∷ (map decimal parts ++ map decimal premises)
 words_of (Root node) = codes "r" ∷ decimal node ∷ []
 
 -- its line: the words with a space between any two, and a newline
@@ -33,19 +36,21 @@ newest = 1
 abbrev pub Earlier : ℕ → ℕ → Type 0
 Earlier at n = (n < at) × (n < 2 ^ 64)
 
--- A row may be row `at` of a file, where the rules have that version. That the rows which it names are of the right
--- kinds is not asked.
+-- A row may be row `at` of a file, where the rules have that version. That the rows which it names
+-- are of the right kinds is not asked.
 abbrev pub MayStand : ℕ → ℕ → Row → Type 0
 MayStand version at (Header v) = (at ≡ 0) × (1 ≤ v) × (v ≤ newest)
 MayStand version at (Var index) = index < 2 ^ 32
-MayStand version at (Make op kids) = IsTrue (has_operator version op) × (length kids ≡ kids_of op) × All (Earlier at) kids
+MayStand version at (Make op kids) =
+    IsTrue (has_operator version op) × (length kids ≡ kids_of op) × All (Earlier at) kids
 MayStand version at (Instance term sub) = All (Earlier at) (term ∷ sub ∷ [])
 MayStand version at (Shift by) = by ≤ greatest_shift
 MayStand version at (Push sub term) = All (Earlier at) (sub ∷ term ∷ [])
 MayStand version at CtxNil = Unit {0}
 MayStand version at (CtxVar ctx ty) = All (Earlier at) (ctx ∷ ty ∷ [])
 MayStand version at (Node rule parts premises) =
-    (first_version rule ≤ version) × (length parts ≡ length (kinds_of rule)) × (length premises ≡ premises_of rule)
+    (first_version rule ≤ version) × (length parts ≡ length (kinds_of rule)) ×
+    (length premises ≡ premises_of rule)
     × All (Earlier at) parts × All (Earlier at) premises
 MayStand version at (Root node) = Earlier at node
 

@@ -10,8 +10,8 @@ ghost use Rattle.deriv_file.specs.Reader.{NextIs};
 ghost use Rattle.deriv_file.specs.Reading.{Reading};
 ghost use Rattle.deriv_file.specs.Spelling.{spelled, MayStand, Spells};
 
-/// A line spells one row at a place. A row that is written reads back wherever it may stand, and so do rows that are
-/// written one after the other.
+/// A line spells one row at a place. A row that is written reads back wherever it may stand, and so
+/// do rows that are written one after the other.
 pub fn laws_of_rows()
     ensures one { (version at : ℕ) (line : List ℕ) (row other : Row) →
         Spells version at line row → Spells version at line other → row ≡ other }

@@ -1,11 +1,13 @@
 //! Derivation files: their rows, the one spelling of each, and an exact reader.
 //!
-//! A file is lines, each ended by one newline, and row k is line k, from 0. A line is words with one space between any
-//! two. A number is `0`, or digits without a leading zero. Where it names a row, it is less than the number of the row
-//! that it stands in. That the rows which are named are of the right kinds is judged elsewhere.
+//! A file is lines, each ended by one newline, and row k is line k, from 0. A line is words with
+//! one space between any two. A number is `0`, or digits without a leading zero. Where it names a
+//! row, it is less than the number of the row that it stands in. That the rows which are named are
+//! of the right kinds is judged elsewhere.
 //!
-//! For example `rules 1`, `c nil`, `n ctx.nil` and `r 2`, each with its newline, are a file of four rows: the header, the
-//! empty context, the node that says that this is a context, and that node as a root.
+//! For example `rules 1`, `c nil`, `n ctx.nil` and `r 2`, each with its newline, are a file of four
+//! rows: the header, the empty context, the node that says that this is a context, and that node as
+//! a root.
 #![tactic(auto)]
 
 mod ids;

@@ -8,7 +8,8 @@ use crate::words::{Words, split_at_first};
 use std::alloc::{AllocError, Global};
 use theory::{count_parts, count_premises, kid_count, op_of, rule_of};
 
-/// The row that the first line of the bytes spells at a place, with the bytes after the line, if it spells one.
+/// The row that the first line of the bytes spells at a place, with the bytes after the line, if it
+/// spells one.
 pub(crate) fn first_row(
     alloc: Global,
     bytes: &[u8],

@@ -19,8 +19,8 @@ pub enum Next {
     BadSpelling(u64),
 }
 
-/// Reads the rows of a derivation file from its bytes, one after the other. It answers `BadSpelling` at the first line
-/// that spells no row, and goes on answering it.
+/// Reads the rows of a derivation file from its bytes, one after the other. It answers
+/// `BadSpelling` at the first line that spells no row, and goes on answering it.
 #[derive(Drop)]
 pub struct RowReader<'a> {
     rest: &'a [u8],
@@ -53,7 +53,8 @@ impl<'a> RowReader<'a> {
         }
     }
 
-    /// The next row. The only error is to be out of memory, and then the reader stands where it stood.
+    /// The next row. The only error is to be out of memory, and then the reader stands where it
+    /// stood.
     pub fn next(&mut self, alloc: Global) -> Result<Next, AllocError>
         ensures next { IfOk result (NextIs self.old self.new) }
         ensures err { OnErr result (self.new ≡ self.old) }

@@ -12,7 +12,8 @@ pub const NEWEST: u32 = 1;
 /// The greatest shift that a file may have.
 pub(crate) const GREATEST_SHIFT: u64 = 4_611_686_018_427_387_904;
 
-/// A row: one variant for each kind of line. A row names others by their numbers; rows are counted from 0.
+/// A row: one variant for each kind of line. A row names others by their numbers; rows are counted
+/// from 0.
 #[derive(Debug, Drop)]
 pub enum Row {
     /// `rules V`: the version of the rules.

@@ -1,6 +1,7 @@
 //! The words of a line.
 
-ghost use Rattle.std.specs.Prelude.{◌≡◌, ◌≢◌, ◌<◌, ◌↔◌, ℕ, List, [], ◌∷◌, ◌++◌, MatchOption, IfOk, IfSome, IfNone, IsTrue, decimal, map};
+ghost use Rattle.std.specs.Prelude.{◌≡◌, ◌≢◌, ◌<◌, ◌↔◌, ℕ, List, [], ◌∷◌, ◌++◌, MatchOption};
+ghost use Rattle.std.specs.Prelude.{IfOk, IfSome, IfNone, IsTrue, decimal, map};
 ghost use Rattle.deriv_file.specs.Spelling.{Earlier};
 ghost use Rattle.std.specs.List.{All};
 ghost use Rattle.deriv_file.specs.Words.{line_words, BeginWith};
@@ -13,7 +14,8 @@ use std::marker::Model;
 /// What stands before the first byte of a value, and what after it.
 pub(crate) fn split_at_first(bytes: &[u8], mark: u8) -> Option<(&[u8], &[u8])>
     ensures some { IfSome result
-        (λ parts. (bytes.now ≡ parts.0.now ++ mark ∷ parts.1.now) × All (λ b. b ≢ mark) parts.0.now) }
+        (λ parts. (bytes.now ≡ parts.0.now ++ mark ∷ parts.1.now) ×
+        All (λ b. b ≢ mark) parts.0.now) }
     ensures none { IfNone result (All (λ b. b ≢ mark) bytes.now) }
 {
     for (i, byte) in bytes.iter().enumerate() {

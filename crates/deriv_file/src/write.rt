@@ -10,7 +10,8 @@ use itoa::Buffer;
 use std::alloc::AllocError;
 use theory::{op_name, rule_name};
 
-/// Appends the line that spells the row. The only error is to be out of memory, and then `into` is as before.
+/// Appends the line that spells the row. The only error is to be out of memory, and then `into` is
+/// as before.
 pub fn write_row(row: &Row, into: &mut Vec<u8>) -> Result<(), AllocError>
     ensures ok { OnOk result (into.new.items ≡ into.old.items ++ spelled row.now) }
     ensures err { OnErr result (into.new.items ≡ into.old.items) }
@@ -59,7 +60,8 @@ fn append_line(
     into: &mut Vec<u8>,
 ) -> Result<(), AllocError>
     ensures ok { OnOk result (into.new.items
-        ≡ into.old.items ++ (kind.now ++ name.now ++ spaced first.now ++ spaced second.now ++ 10 ∷ [])) }
+        ≡ into.old.items ++
+        (kind.now ++ name.now ++ spaced first.now ++ spaced second.now ++ 10 ∷ [])) }
     ensures err { OnErr result (Extends into.old.items into.new.items) }
 {
     into.extend_from_slice(kind)?;

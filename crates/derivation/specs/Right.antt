@@ -1,28 +1,34 @@
 -- Which rows of a derivation file are right, and what its roots are.
-use Rattle.std.specs.Prelude.{◌≡◌, ℕ, ◌+◌, ◌<◌, ◌≤◌, max, List, [], ◌∷◌, ◌++◌, length, take, Option, Some, None, option_and_then}
+use Rattle.std.specs.Prelude.{◌≡◌, ℕ, ◌+◌, ◌<◌, ◌≤◌, max, List, [], ◌∷◌, ◌++◌, length}
+use Rattle.std.specs.Prelude.{take, Option, Some, None, option_and_then}
 use Rattle.std.specs.Option.{option_to_list}
 use Rattle.std.specs.List.{flat_map}
 use Rattle.theory.specs.declared.rule.RuleName.{RuleName}
 use Rattle.trees.specs.Judgements.{Nil, Judgement}
 use Rattle.trees.specs.Trees.{Var as IndexOf, shift_by}
-use Rattle.trees.specs.Things.{Thing, ATree, ASubst, AContext, Meanings, both, meanings, made, instance_of, pushed_on, with_variable}
+use Rattle.trees.specs.Things.{Thing, ATree, ASubst, AContext, Meanings, both, meanings}
+use Rattle.trees.specs.Things.{made, instance_of, pushed_on, with_variable}
 use Rattle.rules.specs.Instances.{IsInstance}
 use Rattle.deriv_file.specs.declared.row.Row.{Row}
-use Rattle.deriv_file.specs.declared.row.Row.TheVariants.{Header, Var, Make, Instance, Shift, Push, CtxNil, CtxVar, Node, Root}
+use Rattle.deriv_file.specs.declared.row.Row.TheVariants.{Header, Var, Make, Instance, Shift}
+use Rattle.deriv_file.specs.declared.row.Row.TheVariants.{Push, CtxNil, CtxVar, Node, Root}
 use Rattle.deriv_file.specs.Spelling.{newest}
 use Rattle.deriv_file.specs.Lines.{lines, SpellRows}
-use Rattle.derivation.specs.Meanings.{Meaning, Means, Concludes, Nothing, thing_at, conclusion_at, conclusions_at, things_at}
+use Rattle.derivation.specs.Meanings.{Meaning, Means, Concludes, Nothing, thing_at}
+use Rattle.derivation.specs.Meanings.{conclusion_at, conclusions_at, things_at}
 
--- A node concludes J: what it names as parts are things, what it names as premises are nodes, and by its rule these
--- things and the conclusions of these nodes give J.
-pub record RightNode (before : List Meaning) (rule : RuleName) (parts premises : List ℕ) (J : Judgement) : Type 0 where
+-- A node concludes J: what it names as parts are things, what it names as premises are nodes, and
+-- by its rule these things and the conclusions of these nodes give J.
+pub record RightNode (before : List Meaning) (rule : RuleName)
+    (parts premises : List ℕ) (J : Judgement) : Type 0 where
   pub xs : List Thing
   pub Js : List Judgement
   pub parts_are : things_at before parts ≡ Some xs
   pub premises_are : conclusions_at before premises ≡ Some Js
   pub instance : IsInstance rule xs Js J
 
--- the tree, substitution or context that a row is, where the rows that it names are things of the right kinds
+-- the tree, substitution or context that a row is, where the rows that it names are things of the
+-- right kinds
 abbrev pub thing_made : Meanings → Row → Option Thing
 thing_made f (Var index) = Some (ATree (IndexOf index))
 thing_made f (Make op kids) = option_and_then (made op) (meanings f kids)
@@ -35,19 +41,23 @@ thing_made f (Header version) = None
 thing_made f (Node rule parts premises) = None
 thing_made f (Root node) = None
 
--- The row is right after right rows with these meanings, and means that. Row 0 is the header, and no other row is.
+-- The row is right after right rows with these meanings, and means that. Row 0 is the header, and
+-- no other row is.
 abbrev pub RightRow : List Meaning → Row → Meaning → Type 0
 RightRow [] (Header version) m = m ≡ Nothing
 RightRow [] row m = ⊥
 RightRow before (Header version) m = ⊥
-RightRow before (Node rule parts premises) m = (J : Judgement) × RightNode before rule parts premises J × (m ≡ Concludes J)
-RightRow before (Root node) m = (J : Judgement) × (conclusion_at before node ≡ Some J) × (m ≡ Nothing)
+RightRow before (Node rule parts premises) m =
+    (J : Judgement) × RightNode before rule parts premises J × (m ≡ Concludes J)
+RightRow before (Root node) m =
+    (J : Judgement) × (conclusion_at before node ≡ Some J) × (m ≡ Nothing)
 RightRow before row m = (x : Thing) × (thing_made (thing_at before) row ≡ Some x) × (m ≡ Means x)
 
 -- these rows are right, one after the other, and then all rows mean that
 abbrev pub RightRows : List Meaning → List Row → List Meaning → Type 0
 RightRows before [] all = all ≡ before
-RightRows before (row ∷ rows) all = (m : Meaning) × RightRow before row m × RightRows (before ++ m ∷ []) rows all
+RightRows before (row ∷ rows) all =
+    (m : Meaning) × RightRow before row m × RightRows (before ++ m ∷ []) rows all
 
 -- the first n lines spell these rows, which are right and mean that
 pub record Begins (bytes : List ℕ) (n : ℕ) (rows : List Row) (all : List Meaning) : Type 0 where

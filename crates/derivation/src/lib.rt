@@ -1,9 +1,11 @@
-//! What derivation files mean, and which of their rows are right. The definitions stand in `specs/`.
+//! What derivation files mean, and which of their rows are right. The definitions stand in
+//! `specs/`.
 //!
-//! Nothing here runs: the functions have the laws of the definitions as their contracts, so that a check proves each.
+//! Nothing here runs: the functions have the laws of the definitions as their contracts, so that a
+//! check proves each.
 //!
-//! For example the file of the rows `rules 1`, `c nil`, `n ctx.nil` and `r 2` is right, and derives one judgement, that
-//! the empty context is one.
+//! For example the file of the rows `rules 1`, `c nil`, `n ctx.nil` and `r 2` is right, and derives
+//! one judgement, that the empty context is one.
 #![tactic(auto)]
 
 ghost use Rattle.std.specs.Prelude.{◌≡◌, ℕ, ◌<◌, ◌≤◌, List, [], ◌∷◌, ◌++◌, length, All, Some};
@@ -15,7 +17,8 @@ ghost use Rattle.derivation.specs.Meanings.{Meaning, conclusion_at};
 ghost use Rattle.derivation.specs.Derivations.{Provable, Derivable};
 ghost use Rattle.derivation.specs.Right.{RightRow, RightRows, Right, AllRight, FirstBad, Derives};
 
-/// A right row means one thing, and what it concludes is provable by the rules. Row 0 is a header, and no other row is.
+/// A right row means one thing, and what it concludes is provable by the rules. Row 0 is a header,
+/// and no other row is.
 pub fn laws_of_meanings()
     ensures row { (before : List Meaning) (row : Row) (m n : Meaning) →
         RightRow before row m → RightRow before row n → m ≡ n }
@@ -28,15 +31,16 @@ pub fn laws_of_meanings()
         (some : List Meaning) × RightRows before rows some × RightRows some more all }
     ensures whole { (before : List Meaning) (rows more : List Row) (some all : List Meaning) →
         RightRows before rows some → RightRows some more all → RightRows before (rows ++ more) all }
-    ensures first { (row : Row) (m : Meaning) → RightRow [] row m → (version : ℕ) × (row ≡ Header version) }
+    ensures first { (row : Row) (m : Meaning) → RightRow [] row m →
+        (version : ℕ) × (row ≡ Header version) }
     ensures header { (before : List Meaning) (version : ℕ) (m : Meaning) →
         RightRow before (Header version) m → before ≡ [] }
     ensures sound { (rows : List Row) (all : List Meaning) (k : ℕ) (J : Judgement) →
         RightRows [] rows all → conclusion_at all k ≡ Some J → Provable J }
 {}
 
-/// A file is right or has a first bad row, and never both. It derives one list of judgements at most; these are derivable,
-/// and what is derivable is provable by the rules.
+/// A file is right or has a first bad row, and never both. It derives one list of judgements at
+/// most; these are derivable, and what is derivable is provable by the rules.
 pub fn laws_of_files()
     ensures right { (bytes : List ℕ) (k : ℕ) → AllRight bytes → FirstBad bytes k → ⊥ }
     ensures bad { (bytes : List ℕ) (j k : ℕ) → FirstBad bytes j → FirstBad bytes k → j ≡ k }
@@ -49,7 +53,8 @@ pub fn laws_of_files()
     ensures derivable { (bytes : List ℕ) (n : ℕ) (Js : List Judgement) →
         Derives bytes n Js → All Derivable Js }
     ensures provable { (J : Judgement) → Derivable J → Provable J }
-    ensures counted { (bytes : List ℕ) (n : ℕ) (Js : List Judgement) → Derives bytes n Js → n ≡ length (lines bytes) }
+    ensures counted { (bytes : List ℕ) (n : ℕ) (Js : List Judgement) →
+        Derives bytes n Js → n ≡ length (lines bytes) }
 
     // The right files are those that derive a list of judgements by a row at least.
     ensures right_derives { (bytes : List ℕ) → AllRight bytes →

@@ -1,5 +1,5 @@
--- Counts of what went wrong. Each is a u64 that goes up by one at each of its events, and stands still
--- once it is at its end.
+-- Counts of what went wrong. Each is a u64 that goes up by one at each of its events, and stands
+-- still once it is at its end.
 use Rattle.std.specs.Prelude.{ℕ, ◌+◌, ◌-◌, ◌^◌, ◌<◌, nat_lt, if◌then◌else◌}
 use Rattle.edge.specs.declared.files.Fetched.{Fetched}
 use Rattle.edge.specs.declared.files.Fetched.TheVariants as fetched

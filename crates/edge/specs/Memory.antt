@@ -1,9 +1,11 @@
 -- Files, a source and a sink in memory, as their callers see them.
-use Rattle.std.specs.Prelude.{◌≡◌, ℕ, ◌-◌, min, List, ◌++◌, length, take, drop, map, Vec, String, string_bytes}
+use Rattle.std.specs.Prelude.{◌≡◌, ℕ, ◌-◌, min, List, ◌++◌, length, take}
+use Rattle.std.specs.Prelude.{drop, map, Vec, String, string_bytes}
 use Rattle.std.specs.BTreeMap.{BTreeMap}
 use Rattle.std.specs.FinMap.{from_entries, insert}
 use Rattle.std.specs.declared.alloc.Global.{Global}
-use Rattle.edge.specs.Counts.{FileCounts, one_more, counted_fetch, counted_store, counted_read, counted_write}
+use Rattle.edge.specs.Counts.{FileCounts, one_more, counted_fetch, counted_store}
+use Rattle.edge.specs.Counts.{counted_read, counted_write}
 use Rattle.edge.specs.Files.{Held}
 use Rattle.edge.specs.declared.files.Fetched.{Fetched}
 use Rattle.edge.specs.declared.files.Stored.{Stored}
@@ -13,8 +15,9 @@ use Rattle.edge.specs.declared.streams.Got.TheVariants as got
 use Rattle.edge.specs.declared.streams.Took.{Took}
 use Rattle.edge.specs.declared.streams.Took.TheVariants as took
 
--- Files in memory. Fetches and stores are numbered together, from 0, and `calls` is the number of the
--- next. It fails where its number is in `failing`. As a count, `calls` stands still at its type's end.
+-- Files in memory. Fetches and stores are numbered together, from 0, and `calls` is the number of
+-- the next. It fails where its number is in `failing`. As a count, `calls` stands still at its
+-- type's end.
 pub record FilesInMemory : Type 0 where
   pub held : Held
   pub failing : List ℕ
@@ -83,7 +86,8 @@ after_write answer piece sink = record sink {
   faults = counted_write answer sink.faults;
 }
 
--- A read gives as much of what is left as fits in the buffer, at its start, and keeps the rest of it.
+-- A read gives as much of what is left as fits in the buffer, at its start, and keeps the rest of
+-- it.
 abbrev pub GivesWhatFits : SourceInMemory → List ℕ → List ℕ → Got → Type 0
 GivesWhatFits source old new (got.Bytes n) =
     (n ≡ min (length old) (length source.left)) × (new ≡ take n source.left ++ drop n old)

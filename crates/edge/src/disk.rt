@@ -13,8 +13,8 @@ use std::io::{Read, Write};
 use std::marker::Model;
 use std::{io, rt};
 
-/// The files of the system, which what `main` is handed reaches. They tell no contents. A path that is
-/// there and can't be opened or read, as a folder, is a fault.
+/// The files of the system, which what `main` is handed reaches. They tell no contents. A path that
+/// is there and can't be opened or read, as a folder, is a fault.
 #[derive(Drop)]
 pub struct DiskFiles<R: rt::Files + Drop> {
     system: R,

@@ -1,10 +1,11 @@
-//! What the program reaches outside itself: files, a source and a sink of bytes, real and in memory.
+//! What the program reaches outside itself: files, a source and a sink of bytes, real and in
+//! memory.
 //!
 //!     let mut files = MemFiles::new(alloc, &[1])?;
 //!     files.put("a.drv", b"one")?;
 //!
-//! The first fetch of `a.drv` is `Fetched::Found` and appends `one`; the second, whose number 1 is listed, is
-//! `Fetched::Failed` and counted.
+//! The first fetch of `a.drv` is `Fetched::Found` and appends `one`; the second, whose number 1 is
+//! listed, is `Fetched::Failed` and counted.
 #![tactic(auto)]
 
 mod disk;

@@ -70,8 +70,8 @@ impl<R: Read + Drop> Source for StdIn<R> {
     }
 }
 
-/// A sink over a writer, as standard output is one. It tells what the writer tells of the bytes that it
-/// took: of standard output nothing.
+/// A sink over a writer, as standard output is one. It tells what the writer tells of the bytes
+/// that it took: of standard output nothing.
 #[derive(Drop)]
 pub struct StdOut<W: Write + Drop> {
     writer: W,

@@ -7,8 +7,8 @@ ghost use Rattle.edge.specs.Streams.{ReadGives, WriteTakes};
 /// How a read ended.
 #[derive(Clone, Copy, Debug, PartialEq, Eq)]
 pub enum Got {
-    /// So many bytes were read, to the start of the buffer. None into a buffer that is not empty is the
-    /// end of the input.
+    /// So many bytes were read, to the start of the buffer. None into a buffer that is not empty is
+    /// the end of the input.
     Bytes(usize),
     /// The read failed, and gave nothing.
     Failed,

@@ -125,7 +125,8 @@ fn errors_have_their_meaning(rt: HostRuntime) {
     assert_eq!(rt; fetched_from(&Ok(())), Fetched::Found);
 }
 
-/// A stream with these errors, the last first, that then gives nothing and takes so many bytes of each piece.
+/// A stream with these errors, the last first, that then gives nothing and takes so many bytes of
+/// each piece.
 #[derive(Drop)]
 struct Faulty {
     errors: Vec<ErrorKind>,

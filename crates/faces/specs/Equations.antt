@@ -27,7 +27,8 @@ is_at Free end = false
 abbrev pub equation_truth : Equation → Point → Bool
 equation_truth equation point = is_at (coordinate_at point equation.name) equation.end
 
--- whether a formula of this value is equal to an end: a value that neither holds nor fails is equal to neither
+-- whether a formula of this value is equal to an end: a value that neither holds nor fails is equal
+-- to neither
 abbrev pub equals_end : Value → Bool → Bool
 equals_end v true = v.holds
 equals_end v false = v.fails

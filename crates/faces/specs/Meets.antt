@@ -13,7 +13,8 @@ ImpliesTogether c d face =
 -- the first face is true wherever both others are
 abbrev pub CoversMeet : List (List Equation) → List (List Equation) → List (List Equation) → Type 0
 CoversMeet face left right =
-    (x : Point) → IsTrue (face_truth left x) → IsTrue (face_truth right x) → IsTrue (face_truth face x)
+    (x : Point) → IsTrue (face_truth left x) →
+    IsTrue (face_truth right x) → IsTrue (face_truth face x)
 
 -- no conjunction of the face is within this one
 abbrev pub IsOutside : List (List Equation) → List Equation → Type 0

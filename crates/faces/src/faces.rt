@@ -1,12 +1,14 @@
 // Disjunctions of conjunctions of equations.
-ghost use Rattle.std.specs.Prelude.{◌≡◌, ◌↔◌, false, true, List, [], All, Any, Contains, IsTrue, IfOk, MatchOption};
+ghost use Rattle.std.specs.Prelude.{◌≡◌, ◌↔◌, false, true, List, [], All, Any};
+ghost use Rattle.std.specs.Prelude.{Contains, IsTrue, IfOk, MatchOption};
 ghost use Rattle.std.specs.List.Sorted.{IsStrictlySortedBy};
 ghost use Rattle.std.specs.Cmp.Lexicographic.{slice_cmp};
 ghost use Rattle.antichains.specs.Antichains.{IsWithin};
 ghost use Rattle.points.specs.Points.{Point, with_free, with_end, valuation_of};
 ghost use Rattle.interval.specs.Forms.{product_value, form_value};
 ghost use Rattle.faces.specs.Equations.{equation_cmp, equals_end, opposite};
-ghost use Rattle.faces.specs.Faces.{conj_truth, face_truth, IsTrueWhere, HoldsUnder, IsConsistent, HasRisingNames, IsIrredundant, LacksName};
+ghost use Rattle.faces.specs.Faces.{conj_truth, face_truth, IsTrueWhere, HoldsUnder, IsConsistent};
+ghost use Rattle.faces.specs.Faces.{HasRisingNames, IsIrredundant, LacksName};
 ghost use Rattle.faces.specs.Meets.{ImpliesTogether, CoversMeet, IsMergeOutside, IsMeetOutside};
 
 use crate::equations::Equation;
@@ -15,11 +17,12 @@ use interval::{Form, Product};
 use std::alloc::{AllocError, Global};
 use std::marker::Model;
 
-/// A conjunction of equations, as the strictly sorted list of them. In a face no two of them are of one name.
+/// A conjunction of equations, as the strictly sorted list of them. In a face no two of them are of
+/// one name.
 pub type Conj = antichains::Product<Equation>;
 
-/// A face, as the disjunction of conjunctions in normal form: they are in order, none implies another, and none has a name
-/// at both ends.
+/// A face, as the disjunction of conjunctions in normal form: they are in order, none implies
+/// another, and none has a name at both ends.
 #[derive(Drop)]
 pub struct Face {
     conjs: Antichain<Equation>,
@@ -59,7 +62,8 @@ impl Face {
 
     /// The face that is true where the form is equal to the end, 1 for `true` and 0 for `false`.
     pub fn eq(alloc: Global, form: &Form, end: bool) -> Result<Face, AllocError>
-        ensures { IfOk result (IsTrueWhere (λ x. equals_end (form_value form.now (valuation_of x)) end)) }
+        ensures { IfOk result
+            (IsTrueWhere (λ x. equals_end (form_value form.now (valuation_of x)) end)) }
     {
         if end {
             Face::where_one(alloc, form)
@@ -78,7 +82,8 @@ impl Face {
         self.conjs.products()
     }
 
-    /// The face that is true where this one is with the name free: without the conjunctions that have the name.
+    /// The face that is true where this one is with the name free: without the conjunctions that
+    /// have the name.
     pub fn forall(&self, name: u64) -> Result<Face, AllocError>
         ensures truth { IfOk result (IsTrueWhere (λ x. face_truth self.now (with_free name x))) }
         ensures gone { IfOk result (LacksName name) }
@@ -92,7 +97,8 @@ impl Face {
         Face::from_conjs(conjs)
     }
 
-    /// The face that is true where this one is with the name at the end, 1 for `true` and 0 for `false`.
+    /// The face that is true where this one is with the name at the end, 1 for `true` and 0 for
+    /// `false`.
     pub fn restrict(&self, name: u64, end: bool) -> Result<Face, AllocError>
         ensures truth { IfOk result (IsTrueWhere (λ x. face_truth self.now (with_end name end x))) }
         ensures gone { IfOk result (LacksName name) }
@@ -107,8 +113,9 @@ impl Face {
         Face::from_conjs(conjs)
     }
 
-    /// Whether this face is true wherever all the given ones are. It meets the given faces one after the other and goes on
-    /// with the conjunctions that do not imply this face yet; of the last one it only asks whether any is left.
+    /// Whether this face is true wherever all the given ones are. It meets the given faces one
+    /// after the other and goes on with the conjunctions that do not imply this face yet; of the
+    /// last one it only asks whether any is left.
     pub fn holds_under(&self, given: &[Face]) -> Result<bool, AllocError>
         ensures { IfOk result (λ holds. IsTrue holds ↔ HoldsUnder given.now self.now) }
     {
@@ -141,8 +148,8 @@ impl Lattice for Face {
 
     ghost either = { λ b c. b || c };
 
-    /// The face that is true where both are: at m and n conjunctions at most m * n merges, and one normal form. A merge with
-    /// a name at both ends is dropped.
+    /// The face that is true where both are: at m and n conjunctions at most m * n merges, and one
+    /// normal form. A merge with a name at both ends is dropped.
     fn meet(&self, other: &Face) -> Result<Face, AllocError> {
         self.meet_outside(other, &Face::bottom(self.alloc())?)
     }
@@ -193,7 +200,8 @@ impl Face {
 
     /// The face that is true where one literal of the product is 0.
     fn where_some_is_zero(alloc: Global, product: &Product) -> Result<Face, AllocError>
-        ensures { IfOk result (IsTrueWhere (λ x. (product_value product.now (valuation_of x)).fails)) }
+        ensures { IfOk result
+            (IsTrueWhere (λ x. (product_value product.now (valuation_of x)).fails)) }
     {
         let mut conjs = Vec::with_capacity(alloc, product.len())?;
         for literal in product.elements() {
@@ -217,7 +225,8 @@ impl Face {
         Face::from_conjs(conjs)
     }
 
-    /// Whether this face is true wherever the two are. A no comes at the first merge that does not imply it.
+    /// Whether this face is true wherever the two are. A no comes at the first merge that does not
+    /// imply it.
     fn covers_meet(&self, left: &Face, right: &Face) -> Result<bool, AllocError>
         ensures { IfOk result (λ covers. IsTrue covers ↔ CoversMeet self.now left.now right.now) }
     {
@@ -254,7 +263,8 @@ impl Face {
     }
 }
 
-/// The conjunction that is true where all literals of the product are 1; none where two of them contradict each other.
+/// The conjunction that is true where all literals of the product are 1; none where two of them
+/// contradict each other.
 fn where_all_are_one(alloc: Global, product: &Product) -> Result<Option<Conj>, AllocError>
     ensures { let truth = λ (x : Point). (product_value product.now (valuation_of x)).holds in
         IfOk result (λ found. MatchOption found

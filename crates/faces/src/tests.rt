@@ -35,8 +35,8 @@ fn step_form(
     }
 }
 
-/// The face of a symbol: `_` is false, `^` is true, `0` and `1` take the form that is to be at that end, and `A` to `Z` make
-/// the names `a` to `z` of the face on top free.
+/// The face of a symbol: `_` is false, `^` is true, `0` and `1` take the form that is to be at that
+/// end, and `A` to `Z` make the names `a` to `z` of the face on top free.
 fn face_from(
     rt: &impl Abort,
     alloc: Global,

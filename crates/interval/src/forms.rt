@@ -1,7 +1,8 @@
 // Sums of products of literals.
 ghost use Rattle.std.specs.Prelude.{◌≡◌, ◌↔◌, List, IsTrue, IfOk};
 ghost use Rattle.antichains.specs.Antichains.{IsNormal, IsWithin};
-ghost use Rattle.points.specs.Values.{value_at, with_value, zero_value, one_value, end_value, negation};
+ghost use Rattle.points.specs.Values.{value_at, with_value, zero_value};
+ghost use Rattle.points.specs.Values.{one_value, end_value, negation};
 ghost use Rattle.interval.specs.Literals.{literal_cmp};
 ghost use Rattle.interval.specs.Forms.{product_value, form_value, HasValue, LacksName};
 
@@ -86,7 +87,8 @@ impl Form {
         self.sum.products()
     }
 
-    /// Whether the two forms have the same value under every valuation. They do exactly where they are the same list.
+    /// Whether the two forms have the same value under every valuation. They do exactly where they
+    /// are the same list.
     pub fn same(&self, other: &Form) -> bool
         ensures values { IsTrue result ↔ HasValue (form_value other.now) self.now }
         ensures lists { IsTrue result ↔ (self.now ≡ other.now) }
@@ -94,7 +96,8 @@ impl Form {
         self.sum.same(&other.sum)
     }
 
-    /// The negation: by De Morgan's laws, the meet over all products of the join of their negated literals.
+    /// The negation: by De Morgan's laws, the meet over all products of the join of their negated
+    /// literals.
     pub fn neg(&self) -> Result<Form, AllocError>
         ensures { IfOk result (HasValue (λ valuation. negation (form_value self.now valuation))) }
     {
@@ -127,7 +130,8 @@ impl Form {
 
     /// The negation of a product: the sum of its negated literals.
     fn negated(alloc: Global, product: &Product) -> Result<Form, AllocError>
-        ensures { IfOk result (HasValue (λ valuation. negation (product_value product.now valuation))) }
+        ensures { IfOk result
+            (HasValue (λ valuation. negation (product_value product.now valuation))) }
     {
         let mut products = Vec::with_capacity(alloc, product.len())?;
         for literal in product.elements() {

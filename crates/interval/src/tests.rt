@@ -5,8 +5,8 @@ use crate::{Form, FormStack, Lattice, Literal};
 use std::alloc::{AllocError, Global};
 use std::process::Abort;
 
-/// Does what a symbol of a postfix text says: `a` to `z` are names, `0` and `1` the ends, `-` negates, `&` meets and `|`
-/// joins.
+/// Does what a symbol of a postfix text says: `a` to `z` are names, `0` and `1` the ends, `-`
+/// negates, `&` meets and `|` joins.
 fn step(
     rt: &impl Abort,
     alloc: Global,

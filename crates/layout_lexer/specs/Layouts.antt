@@ -1,5 +1,7 @@
 -- Layout: where the marks `{`, `;` and `}` stand between the tokens of a text.
-use Rattle.std.specs.Prelude.{◌≡◌, ℕ, Option, Some, None, Bool, true, false, not, ◌&&◌, ◌+◌, ◌==◌, nat_lt, List, [], ◌∷◌, ◌++◌, map, length, drop, replicate, if◌then◌else◌}
+use Rattle.std.specs.Prelude.{◌≡◌, ℕ, Option, Some, None, Bool, true, false, not, ◌&&◌, ◌+◌, ◌==◌}
+use Rattle.std.specs.Prelude.{nat_lt, List, [], ◌∷◌, ◌++◌, map, length, drop, replicate}
+use Rattle.std.specs.Prelude.{if◌then◌else◌}
 use Rattle.std.specs.List.{prefix_len, position_or_len, list_any}
 use Rattle.layout_lexer.specs.declared.token.Kind.{Kind}
 use Rattle.layout_lexer.specs.declared.token.Kind.TheVariants.{Open, Next, Close, Where, Let, In}
@@ -36,7 +38,8 @@ top (block ∷ blocks) = block.column
 
 -- after `where` or `let`, the token begins a block
 abbrev pub begins_block : Opener → List Block → Plain → Bool
-begins_block opener blocks t = asks opener && nat_lt (top blocks) t.token.column && not (is_in t.token.kind)
+begins_block opener blocks t =
+    asks opener && nat_lt (top blocks) t.token.column && not (is_in t.token.kind)
 
 -- how many blocks are right of a column
 abbrev pub right_of : ℕ → List Block → ℕ
@@ -44,7 +47,8 @@ right_of column blocks = prefix_len (λ b. nat_lt column b.column) blocks
 
 -- how many blocks there are up to and with the nearest that `let` opened, 0 where there is none
 abbrev pub let_depth : List Block → ℕ
-let_depth blocks = if list_any (λ b. b.by_let) blocks then position_or_len (λ b. b.by_let) blocks + 1 else 0
+let_depth blocks =
+    if list_any (λ b. b.by_let) blocks then position_or_len (λ b. b.by_let) blocks + 1 else 0
 
 -- how many blocks end at `in`, after an opener or none; an empty block of `let` has ended already
 abbrev pub ended_by_in : Opener → List Block → ℕ
@@ -76,7 +80,10 @@ marks_before opener blocks t =
 
 abbrev pub blocks_after : Opener → List Block → Plain → List Block
 blocks_after opener blocks t =
-    if begins_block opener blocks t then record { column = t.token.column; by_let = is_let opener } ∷ blocks
+    if begins_block opener blocks t then record {
+      column = t.token.column;
+      by_let = is_let opener;
+    } ∷ blocks
     else drop (ended opener blocks t) blocks
 
 -- a mark at a place
@@ -86,9 +93,11 @@ mark place kind = record { kind = kind; start = place.at; end = place.at; column
 abbrev pub start_of : Token → Place
 start_of token = record { at = token.start; column = token.column }
 
--- the tokens with their marks, after an opener or none, within these blocks, in a text that ends there
+-- the tokens with their marks, after an opener or none, within these blocks, in a text that ends
+-- there
 abbrev pub laid_out : Opener → List Block → Place → List Plain → List Token
-laid_out opener blocks end [] = map (mark end) (empty_block opener ++ replicate (length blocks) Close)
+laid_out opener blocks end [] =
+    map (mark end) (empty_block opener ++ replicate (length blocks) Close)
 laid_out opener blocks end (t ∷ ts) =
     map (mark (start_of t.token)) (marks_before opener blocks t)
     ++ t.token ∷ laid_out (opener_of t.token.kind) (blocks_after opener blocks t) end ts
@@ -101,7 +110,11 @@ BlockEnded old new (Some block) = old ≡ block ∷ new
 -- what is laid out so far, with more marks at a place, within these blocks
 abbrev pub marked : Layout → Place → List Kind → List Block → Layout
 marked layout place marks blocks =
-    record { tokens = layout.tokens ++ map (mark place) marks; blocks = blocks; opener = layout.opener }
+    record {
+      tokens = layout.tokens ++ map (mark place) marks;
+      blocks = blocks;
+      opener = layout.opener;
+    }
 
 -- the same, with the n innermost blocks ended
 abbrev pub ending : ℕ → Layout → Place → Layout
@@ -112,7 +125,8 @@ abbrev pub line_begun : Layout → Token → Layout
 line_begun layout token =
     let left = drop (right_of token.column layout.blocks) layout.blocks in
     marked layout (start_of token)
-    (replicate (right_of token.column layout.blocks) Close ++ (if top left == token.column then Next ∷ [] else [])) left
+    (replicate (right_of token.column layout.blocks) Close ++
+    (if top left == token.column then Next ∷ [] else [])) left
 
 -- the same, before a token that begins no block
 abbrev pub blocks_ended : Layout → Plain → Layout
@@ -123,7 +137,8 @@ blocks_ended layout t =
 -- a token is appended, with the marks before it
 abbrev pub appended : Layout → Plain → Layout
 appended layout t = record {
-  tokens = layout.tokens ++ map (mark (start_of t.token)) (marks_before layout.opener layout.blocks t) ++ t.token ∷ [];
+  tokens = layout.tokens ++
+      map (mark (start_of t.token)) (marks_before layout.opener layout.blocks t) ++ t.token ∷ [];
   blocks = blocks_after layout.opener layout.blocks t;
   opener = opener_of t.token.kind;
 }
@@ -131,4 +146,5 @@ appended layout t = record {
 -- with the marks at the end of the text
 abbrev pub finished : Layout → Place → List Token
 finished layout end =
-    layout.tokens ++ map (mark end) (empty_block layout.opener ++ replicate (length layout.blocks) Close)
+    layout.tokens ++
+    map (mark end) (empty_block layout.opener ++ replicate (length layout.blocks) Close)

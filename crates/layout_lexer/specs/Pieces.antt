@@ -1,5 +1,6 @@
 -- The pieces of a text: space, comments and tokens. Texts are lists of characters here.
-use Rattle.std.specs.Prelude.{ℕ, zero, suc, Bool, true, false, not, ◌&&◌, ◌||◌, ◌==◌, List, [], ◌∷◌, length, take, drop, if◌then◌else◌, Option, Some, is_some}
+use Rattle.std.specs.Prelude.{ℕ, zero, suc, Bool, true, false, not, ◌&&◌, ◌||◌, ◌==◌, List, []}
+use Rattle.std.specs.Prelude.{◌∷◌, length, take, drop, if◌then◌else◌, Option, Some, is_some}
 use Rattle.std.specs.Option.{unwrap_or}
 use Rattle.std.specs.List.{find, list_all, prefix_len}
 use Rattle.std.specs.Str.{bytes_eq}
@@ -81,7 +82,8 @@ abbrev pub is_block_comment : List ℕ → Bool
 is_block_comment text = opens_comment text && ends_with_close (drop 2 text)
 
 abbrev pub is_piece : List ℕ → Bool
-is_piece text = is_one_space text || is_line_comment text || is_block_comment text || is_some (kind_of text)
+is_piece text =
+    is_one_space text || is_line_comment text || is_block_comment text || is_some (kind_of text)
 
 -- how many characters the longest of the first n prefixes has that passes, 0 where none does
 abbrev pub longest : (List ℕ → Bool) → ℕ → List ℕ → ℕ

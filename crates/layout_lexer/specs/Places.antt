@@ -1,5 +1,6 @@
 -- Where a character of a text stands, and how a text is read.
-use Rattle.std.specs.Prelude.{◌≡◌, ℕ, zero, suc, ◌+◌, ◌*◌, ◌/◌, Bool, false, ◌||◌, ◌==◌, List, [], ◌∷◌, if◌then◌else◌, Option, Some, None}
+use Rattle.std.specs.Prelude.{◌≡◌, ℕ, zero, suc, ◌+◌, ◌*◌, ◌/◌, Bool, false, ◌||◌, ◌==◌}
+use Rattle.std.specs.Prelude.{List, [], ◌∷◌, if◌then◌else◌, Option, Some, None}
 use Rattle.std.specs.Char.{len_utf8}
 
 -- by bytes, and by its column
@@ -18,7 +19,8 @@ is_newline c = c == 10
 
 -- the column after a character: a tab moves to the next one of the form 8k + 1
 abbrev pub column_after : ℕ → ℕ → ℕ
-column_after c column = if is_newline c then 1 else (if c == 9 then (column + 7) / 8 * 8 + 1 else column + 1)
+column_after c column =
+    if is_newline c then 1 else (if c == 9 then (column + 7) / 8 * 8 + 1 else column + 1)
 
 -- the place after a character
 abbrev pub past : ℕ → Place → Place
@@ -37,7 +39,8 @@ pub record Reading : Type 0 where
 
 -- one character further
 abbrev pub step : Reading → ℕ → List ℕ → Reading
-step reading c cs = record { place = past c reading.place; fresh = reading.fresh || is_newline c; rest = cs }
+step reading c cs =
+    record { place = past c reading.place; fresh = reading.fresh || is_newline c; rest = cs }
 
 -- a character was read
 abbrev pub IsStep : Reading → ℕ → Reading → Type 0

@@ -1,6 +1,7 @@
--- The tokens that the characters of a text spell, before layout: the text is cut in pieces, each the longest that the rest
--- begins with.
-use Rattle.std.specs.Prelude.{◌≡◌, ◌<◌, ℕ, zero, suc, ◌-◌, Bool, false, ◌&&◌, ◌||◌, ◌==◌, List, [], ◌∷◌, length, if◌then◌else◌, Option, Some, None, Result, Ok, Err}
+-- The tokens that the characters of a text spell, before layout: the text is cut in pieces, each
+-- the longest that the rest begins with.
+use Rattle.std.specs.Prelude.{◌≡◌, ◌<◌, ℕ, zero, suc, ◌-◌, Bool, false, ◌&&◌, ◌||◌, ◌==◌, List, []}
+use Rattle.std.specs.Prelude.{◌∷◌, length, if◌then◌else◌, Option, Some, None, Result, Ok, Err}
 use Rattle.std.specs.List.{list_any}
 use Rattle.std.specs.Option.{is_some, option_map}
 use Rattle.layout_lexer.specs.declared.fault.LexFault.{LexFault}
@@ -11,7 +12,8 @@ use Rattle.layout_lexer.specs.declared.pieces.Piece.{Piece}
 use Rattle.layout_lexer.specs.declared.pieces.Piece.TheVariants as piece
 use Rattle.layout_lexer.specs.Words.{signs}
 use Rattle.layout_lexer.specs.Places.{Place, Reading, past, past_all, is_newline, moved, IsStep}
-use Rattle.layout_lexer.specs.Pieces.{kind_of, spelled_in, piece_of, piece_len, opens_comment, begins}
+use Rattle.layout_lexer.specs.Pieces.{kind_of, spelled_in, piece_of, piece_len}
+use Rattle.layout_lexer.specs.Pieces.{opens_comment, begins}
 
 -- a token, before the rest of the tokens
 abbrev pub onto : Plain → Result (List Plain) LexFault → Result (List Plain) LexFault
@@ -21,7 +23,10 @@ onto token (Err fault) = Err fault
 -- the token of that kind from one place to another
 abbrev pub plain : Bool → Kind → Place → Place → Plain
 plain fresh kind place end =
-    record { token = record { kind = kind; start = place.at; end = end.at; column = place.column }; first = fresh }
+    record {
+      token = record { kind = kind; start = place.at; end = end.at; column = place.column };
+      first = fresh;
+    }
 
 -- what is wrong where a text begins with no piece
 abbrev pub fault_at : Place → List ℕ → LexFault
@@ -29,15 +34,19 @@ fault_at place text = if opens_comment text then OpenComment place.at else BadBy
 
 -- whether the line has no token yet after a piece
 abbrev pub fresh_after : Bool → List ℕ → Bool
-fresh_after fresh piece = if is_some (kind_of piece) then false else (fresh || list_any is_newline piece)
+fresh_after fresh piece =
+    if is_some (kind_of piece) then false else (fresh || list_any is_newline piece)
 
 -- a token from one place to another, if there is one, before the rest of the tokens
-abbrev pub onto_kind : Bool → Place → Place → Option Kind → Result (List Plain) LexFault → Result (List Plain) LexFault
+abbrev pub onto_kind : Bool → Place → Place → Option Kind →
+    Result (List Plain) LexFault → Result (List Plain) LexFault
 onto_kind fresh place end None rest = rest
 onto_kind fresh place end (Some kind) rest = onto (plain fresh kind place end) rest
 
--- a piece of a text, before the tokens of the rest: a fault where there is no piece, and nothing for space and comments
-abbrev pub with_piece : Bool → Place → List ℕ → List ℕ → Result (List Plain) LexFault → Result (List Plain) LexFault
+-- a piece of a text, before the tokens of the rest: a fault where there is no piece, and nothing
+-- for space and comments
+abbrev pub with_piece : Bool → Place → List ℕ → List ℕ →
+    Result (List Plain) LexFault → Result (List Plain) LexFault
 with_piece fresh place text [] rest = Err (fault_at place text)
 with_piece fresh place text (c ∷ cs) rest =
     onto_kind fresh place (past_all (c ∷ cs) place) (kind_of (c ∷ cs)) rest
@@ -60,10 +69,13 @@ end_of reading = past_all reading.rest reading.place
 -- what was read where a piece begins, and where the reader then stands
 abbrev pub PieceIs : Reading → Reading → Piece → Type 0
 PieceIs old new piece.Gap =
-    (0 < piece_len old.rest) × (kind_of (piece_of old.rest) ≡ None) × (new ≡ moved (piece_len old.rest) old)
+    (0 < piece_len old.rest) × (kind_of (piece_of old.rest) ≡ None) ×
+    (new ≡ moved (piece_len old.rest) old)
 PieceIs old new (piece.Token kind) =
-    (0 < piece_len old.rest) × (kind_of (piece_of old.rest) ≡ Some kind) × (new ≡ moved (piece_len old.rest) old)
-PieceIs old new (piece.Fault fault) = (0 < length old.rest) × (piece_len old.rest ≡ 0) × (fault ≡ fault_at old.place old.rest)
+    (0 < piece_len old.rest) × (kind_of (piece_of old.rest) ≡ Some kind) ×
+    (new ≡ moved (piece_len old.rest) old)
+PieceIs old new (piece.Fault fault) =
+    (0 < length old.rest) × (piece_len old.rest ≡ 0) × (fault ≡ fault_at old.place old.rest)
 
 abbrev pub PieceRead : Reading → Reading → Option Piece → Type 0
 PieceRead old new None = (old.rest ≡ []) × (new ≡ old)
@@ -86,7 +98,8 @@ SignRead first at mid new piece =
 
 -- what a character is that begins no longer sign
 abbrev pub one_sign : ℕ → ℕ → Piece
-one_sign c at = elim (spelled_in signs (c ∷ [])) [ None ↦ piece.Fault (BadByte at) | Some kind ↦ piece.Token kind ]
+one_sign c at = elim
+    (spelled_in signs (c ∷ [])) [ None ↦ piece.Fault (BadByte at) | Some kind ↦ piece.Token kind ]
 
 -- how many characters there are up to and with the first `-}`
 abbrev pub close_len : List ℕ → Option ℕ
@@ -101,7 +114,8 @@ closed reading = option_map (λ n. moved n reading) (close_len reading.rest)
 abbrev pub TokenRead : Reading → Reading → Option Plain → Type 0
 TokenRead old new None = (tokens_left old ≡ Ok []) × (new.place ≡ end_of old)
 TokenRead old new (Some token) =
-    (tokens_left old ≡ onto token (tokens_left new)) × (end_of new ≡ end_of old) × (length new.rest < length old.rest)
+    (tokens_left old ≡ onto token (tokens_left new)) ×
+    (end_of new ≡ end_of old) × (length new.rest < length old.rest)
 
 -- what is answered: a token or none, or the fault
 abbrev pub TokenAnswer : Reading → Reading → Result (Option Plain) LexFault → Type 0

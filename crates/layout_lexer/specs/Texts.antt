@@ -1,5 +1,6 @@
 -- The tokens of a text, given by its bytes.
-use Rattle.std.specs.Prelude.{◌≡◌, ◌≢◌, ℕ, true, List, [], ◌++◌, length, nat_lt, if◌then◌else◌, Result, Ok, Err}
+use Rattle.std.specs.Prelude.{◌≡◌, ◌≢◌, ℕ, true, List, [], ◌++◌, length}
+use Rattle.std.specs.Prelude.{nat_lt, if◌then◌else◌, Result, Ok, Err}
 use Rattle.std.specs.Str.{chars, is_utf8, encode_utf8_all}
 use Rattle.std.specs.Str.Lossy.{utf8_valid_len}
 use Rattle.layout_lexer.specs.declared.fault.LexFault.{LexFault}
@@ -22,7 +23,8 @@ IsBefore text rest read = chars text ≡ read ++ chars rest
 
 -- these are their bytes
 abbrev pub BytesBefore : List ℕ → List ℕ → List ℕ → Type 0
-BytesBefore text rest bytes = (read : List ℕ) → IsBefore text rest read → bytes ≡ encode_utf8_all read
+BytesBefore text rest bytes =
+    (read : List ℕ) → IsBefore text rest read → bytes ≡ encode_utf8_all read
 
 abbrev pub with_layout : Place → Result (List Plain) LexFault → Result (List Token) LexFault
 with_layout end (Ok tokens) = Ok (laid_out Nothing [] end tokens)
@@ -36,11 +38,13 @@ spelled_tokens text = with_layout (end_of (whole text)) (tokens_left (whole text
 abbrev pub tokens_of : List ℕ → Result (List Token) LexFault
 tokens_of bytes =
     if nat_lt 16777216 (length bytes) then Err TooLong
-    else (if is_utf8 bytes then spelled_tokens (chars bytes) else Err (NotUtf8 (utf8_valid_len bytes)))
+    else (if is_utf8 bytes then spelled_tokens (chars bytes)
+    else Err (NotUtf8 (utf8_valid_len bytes)))
 
 -- the tokens of what is left of a text, after what is laid out so far
 abbrev pub continued : Layout → Place → Result (List Plain) LexFault → Result (List Token) LexFault
-continued layout end (Ok tokens) = Ok (layout.tokens ++ laid_out layout.opener layout.blocks end tokens)
+continued layout end (Ok tokens) =
+    Ok (layout.tokens ++ laid_out layout.opener layout.blocks end tokens)
 continued layout end (Err fault) = Err fault
 
 -- the fault is the answer, unless there was no memory

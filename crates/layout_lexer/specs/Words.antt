@@ -1,7 +1,18 @@
 -- How the tokens are spelled: one table for signs and words.
 use Rattle.std.specs.Prelude.{ℕ, Bool, true, ◌&&◌, nat_le, List, [], ◌∷◌, length, codes}
 use Rattle.layout_lexer.specs.declared.token.Kind.{Kind}
-use Rattle.layout_lexer.specs.declared.token.Kind.TheVariants.{Open, Next, Close, LeftParen, RightParen, LeftBracket, RightBracket, Comma, Colon, Equals, At, Star, Less, Greater, Question, Bar, Backslash, Minus, Arrow, And, Or, First, Second, Zero, One, Module, Where, Import, Let, In, PathP, Comp, Fill, Transport, GlueType, GlueTerm, Unglue, U, Data, Hdata, Split, Mutual, Undefined, Opaque, Transparent, TransparentAll, Identifier}
+use Rattle.layout_lexer.specs.declared.token.Kind.TheVariants.{Open, Next, Close, LeftParen}
+use Rattle.layout_lexer.specs.declared.token.Kind.TheVariants.{RightParen, LeftBracket}
+use Rattle.layout_lexer.specs.declared.token.Kind.TheVariants.{RightBracket, Comma, Colon, Equals}
+use Rattle.layout_lexer.specs.declared.token.Kind.TheVariants.{At, Star, Less, Greater, Question}
+use Rattle.layout_lexer.specs.declared.token.Kind.TheVariants.{Bar, Backslash, Minus, Arrow, And}
+use Rattle.layout_lexer.specs.declared.token.Kind.TheVariants.{Or, First, Second, Zero, One, Module}
+use Rattle.layout_lexer.specs.declared.token.Kind.TheVariants.{Where, Import, Let, In, PathP, Comp}
+use Rattle.layout_lexer.specs.declared.token.Kind.TheVariants.{Fill, Transport, GlueType, GlueTerm}
+use Rattle.layout_lexer.specs.declared.token.Kind.TheVariants.{Unglue, U, Data, Hdata, Split}
+use Rattle.layout_lexer.specs.declared.token.Kind.TheVariants.{Mutual, Undefined, Opaque}
+use Rattle.layout_lexer.specs.declared.token.Kind.TheVariants.{Transparent, TransparentAll}
+use Rattle.layout_lexer.specs.declared.token.Kind.TheVariants.{Identifier}
 
 -- how each is spelled; no bytes spell a mark, and of names there is no one spelling
 abbrev pub spelling : Kind → List ℕ
@@ -56,10 +67,12 @@ spelling Identifier = []
 -- the signs: tokens that are no names
 abbrev pub signs : List Kind
 signs =
-    LeftParen ∷ RightParen ∷ LeftBracket ∷ RightBracket ∷ Comma ∷ Colon ∷ Equals ∷ At ∷ Star ∷ Less ∷ Greater ∷
+    LeftParen ∷ RightParen ∷ LeftBracket ∷ RightBracket ∷
+    Comma ∷ Colon ∷ Equals ∷ At ∷ Star ∷ Less ∷ Greater ∷
     Question ∷ Bar ∷ Backslash ∷ Minus ∷ Arrow ∷ And ∷ Or ∷ First ∷ Second ∷ Zero ∷ One ∷ []
 
 -- the spellings are at least so long, and none is longer than a later one
 abbrev pub rises : ℕ → List Kind → Bool
 rises least [] = true
-rises least (kind ∷ kinds) = nat_le least (length (spelling kind)) && rises (length (spelling kind)) kinds
+rises least (kind ∷ kinds) =
+    nat_le least (length (spelling kind)) && rises (length (spelling kind)) kinds

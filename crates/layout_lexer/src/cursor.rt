@@ -1,6 +1,7 @@
 //! A text that is read by characters.
 
-ghost use Rattle.std.specs.Prelude.{◌≡◌, ◌+◌, ◌^◌, ◌<◌, ◌≤◌, [], ◌++◌, List, ℕ, length, true, false};
+ghost use Rattle.std.specs.Prelude.{◌≡◌, ◌+◌, ◌^◌, ◌<◌, ◌≤◌, [], ◌++◌};
+ghost use Rattle.std.specs.Prelude.{List, ℕ, length, true, false};
 ghost use Rattle.std.specs.Str.{chars};
 ghost use Rattle.layout_lexer.specs.Places.{CharRead, column_after, first_of, noted};
 ghost use Rattle.layout_lexer.specs.Texts.{whole, IsBefore, BytesBefore};

@@ -4,8 +4,10 @@ ghost use Rattle.std.specs.Prelude.{◌≡◌, ◌∷◌, [], OnOk};
 ghost use Rattle.layout_lexer.specs.declared.layout.Opener.TheVariants.{Nothing};
 ghost use Rattle.layout_lexer.specs.declared.token.Kind.TheVariants.{Open};
 ghost use Rattle.layout_lexer.specs.Places.{place_at};
-ghost use Rattle.layout_lexer.specs.Layouts.{opener_of, asks, is_let, is_in, mark, start_of, begins_block, empty_block, ended_by_in, right_of};
-ghost use Rattle.layout_lexer.specs.Layouts.{marked, ending, line_begun, blocks_ended, appended, finished};
+ghost use Rattle.layout_lexer.specs.Layouts.{opener_of, asks, is_let, is_in, mark, start_of};
+ghost use Rattle.layout_lexer.specs.Layouts.{begins_block, empty_block, ended_by_in, right_of};
+ghost use Rattle.layout_lexer.specs.Layouts.{marked, ending, line_begun, blocks_ended};
+ghost use Rattle.layout_lexer.specs.Layouts.{appended, finished};
 
 use crate::blocks::{Block, Blocks};
 use crate::scanner::Plain;
@@ -166,10 +168,12 @@ impl Layout {
         Ok(())
     }
 
-    /// Ends the blocks up to the nearest that `let` opened, where `in` comes. An empty block of `let` has ended already.
+    /// Ends the blocks up to the nearest that `let` opened, where `in` comes. An empty block of
+    /// `let` has ended already.
     fn end_let(&mut self, token: Token) -> Result<(), AllocError>
         ensures { OnOk result (
-            self.new ≡ ending (ended_by_in self.old.opener self.old.blocks) self.old (start_of token)) }
+            self.new ≡ ending (ended_by_in self.old.opener self.old.blocks)
+            self.old (start_of token)) }
     {
         if is_let(self.opener) || !self.blocks.has_let() {
             return Ok(());
@@ -183,7 +187,8 @@ impl Layout {
         Ok(())
     }
 
-    /// Ends the blocks that the first token of a line stands left of, and begins an item of the block that it fits.
+    /// Ends the blocks that the first token of a line stands left of, and begins an item of the
+    /// block that it fits.
     fn begin_line(&mut self, token: Token) -> Result<(), AllocError>
         ensures { OnOk result (self.new ≡ line_begun self.old token) }
     {

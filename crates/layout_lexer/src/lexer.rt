@@ -17,8 +17,8 @@ pub const MAX_LEN: usize = 16_777_216;
 
 /// The tokens of a text, with the marks that its layout stands for.
 ///
-/// Of the faults `TooLong` comes first, before a byte is read, then `NotUtf8`; of `BadByte` and `OpenComment` the one
-/// that comes first in the text.
+/// Of the faults `TooLong` comes first, before a byte is read, then `NotUtf8`; of `BadByte` and
+/// `OpenComment` the one that comes first in the text.
 pub fn tokens(alloc: Global, bytes: &[u8]) -> Result<Tokens, LexFault>
     ensures ok { IfOk result (λ tokens. tokens_of bytes.now ≡ Ok tokens) }
     ensures err { IfErr result (Fails (tokens_of bytes.now)) }

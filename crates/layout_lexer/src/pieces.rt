@@ -5,8 +5,10 @@ ghost use Rattle.std.specs.List.{prefix_len};
 ghost use Rattle.std.specs.Str.{chars};
 ghost use Rattle.layout_lexer.specs.Places.{moved};
 ghost use Rattle.layout_lexer.specs.Words.{signs};
-ghost use Rattle.layout_lexer.specs.Pieces.{spelled_in, word_kind, starts_name, continues_name, name_rest, name_from, is_space, stays_on_line};
-ghost use Rattle.layout_lexer.specs.Scanning.{PieceRead, SignRead, closed, begins_as, sign_of_two, one_sign};
+ghost use Rattle.layout_lexer.specs.Pieces.{spelled_in, word_kind, starts_name, continues_name};
+ghost use Rattle.layout_lexer.specs.Pieces.{name_rest, name_from, is_space, stays_on_line};
+ghost use Rattle.layout_lexer.specs.Scanning.{PieceRead, SignRead, closed, begins_as};
+ghost use Rattle.layout_lexer.specs.Scanning.{sign_of_two, one_sign};
 
 use crate::cursor::{self, Cursor};
 use crate::fault::LexFault;

@@ -1,5 +1,5 @@
-//! Texts with all their tokens. A token is written as its spelling (`name` for an identifier), where it starts and ends,
-//! and its column.
+//! Texts with all their tokens. A token is written as its spelling (`name` for an identifier),
+//! where it starts and ends, and its column.
 
 use crate::{Kind, LexFault, Span, Spans, Text, Token, Tokens, spelling, tokens};
 use std::alloc::{AllocError, Global};
@@ -53,7 +53,10 @@ static SIGNS: &[(&str, &str)] = &[
     ("", ""),
     (
         "( ) [ ] , : = @ * < > | ? \\ - -> /\\ \\/ .1 .2 0 1",
-        "( 0 1 1, ) 2 3 3, [ 4 5 5, ] 6 7 7, , 8 9 9, : 10 11 11, = 12 13 13, @ 14 15 15, * 16 17 17, < 18 19 19, > 20 21 21, | 22 23 23, ? 24 25 25, \\ 26 27 27, - 28 29 29, -> 30 32 31, /\\ 33 35 34, \\/ 36 38 37, .1 39 41 40, .2 42 44 43, 0 45 46 46, 1 47 48 48",
+        "( 0 1 1, ) 2 3 3, [ 4 5 5, ] 6 7 7, , 8 9 9, : 10 11 11, = 12 13 13, @ 14 15 15, \
+         * 16 17 17, < 18 19 19, > 20 21 21, | 22 23 23, ? 24 25 25, \\ 26 27 27, - 28 29 29, \
+         -> 30 32 31, /\\ 33 35 34, \\/ 36 38 37, .1 39 41 40, .2 42 44 43, 0 45 46 46, \
+         1 47 48 48",
     ),
     (
         "([:@<|",
@@ -116,11 +119,13 @@ static NAMES: &[(&str, &str)] = &[
     ("'x", "BadByte(0)"),
     (
         "module import PathP comp fill transport Glue glue unglue U",
-        "module 0 6 1, import 7 13 8, PathP 14 19 15, comp 20 24 21, fill 25 29 26, transport 30 39 31, Glue 40 44 41, glue 45 49 46, unglue 50 56 51, U 57 58 58",
+        "module 0 6 1, import 7 13 8, PathP 14 19 15, comp 20 24 21, fill 25 29 26, \
+         transport 30 39 31, Glue 40 44 41, glue 45 49 46, unglue 50 56 51, U 57 58 58",
     ),
     (
         "data hdata split mutual undefined opaque transparent transparent_all",
-        "data 0 4 1, hdata 5 10 6, split 11 16 12, mutual 17 23 18, undefined 24 33 25, opaque 34 40 35, transparent 41 52 42, transparent_all 53 68 54",
+        "data 0 4 1, hdata 5 10 6, split 11 16 12, mutual 17 23 18, undefined 24 33 25, \
+         opaque 34 40 35, transparent 41 52 42, transparent_all 53 68 54",
     ),
     (
         "lets wherever in' module1 Up",
@@ -207,23 +212,28 @@ static BLOCKS: &[(&str, &str)] = &[
     ("a\nb", "name 0 1 1, name 2 3 1"),
     (
         "module M where\na = b\nc = d",
-        "module 0 6 1, name 7 8 8, where 9 14 10, { 15 15 1, name 15 16 1, = 17 18 3, name 19 20 5, ; 21 21 1, name 21 22 1, = 23 24 3, name 25 26 5, } 26 26 6",
+        "module 0 6 1, name 7 8 8, where 9 14 10, { 15 15 1, name 15 16 1, = 17 18 3, \
+         name 19 20 5, ; 21 21 1, name 21 22 1, = 23 24 3, name 25 26 5, } 26 26 6",
     ),
     (
         "m where\n a where\n  b where\n   c\nd",
-        "name 0 1 1, where 2 7 3, { 9 9 2, name 9 10 2, where 11 16 4, { 19 19 3, name 19 20 3, where 21 26 5, { 30 30 4, name 30 31 4, } 32 32 1, } 32 32 1, } 32 32 1, name 32 33 1",
+        "name 0 1 1, where 2 7 3, { 9 9 2, name 9 10 2, where 11 16 4, { 19 19 3, name 19 20 3, \
+         where 21 26 5, { 30 30 4, name 30 31 4, } 32 32 1, } 32 32 1, } 32 32 1, name 32 33 1",
     ),
     (
         "m where\na where",
-        "name 0 1 1, where 2 7 3, { 8 8 1, name 8 9 1, where 10 15 3, { 15 15 8, } 15 15 8, } 15 15 8",
+        "name 0 1 1, where 2 7 3, { 8 8 1, name 8 9 1, where 10 15 3, { 15 15 8, } 15 15 8, \
+         } 15 15 8",
     ),
     (
         "f where\n  g where\n  h",
-        "name 0 1 1, where 2 7 3, { 10 10 3, name 10 11 3, where 12 17 5, { 20 20 3, } 20 20 3, ; 20 20 3, name 20 21 3, } 21 21 4",
+        "name 0 1 1, where 2 7 3, { 10 10 3, name 10 11 3, where 12 17 5, { 20 20 3, } 20 20 3, \
+         ; 20 20 3, name 20 21 3, } 21 21 4",
     ),
     (
         "f where\n  g where\n h",
-        "name 0 1 1, where 2 7 3, { 10 10 3, name 10 11 3, where 12 17 5, { 19 19 2, } 19 19 2, } 19 19 2, name 19 20 2",
+        "name 0 1 1, where 2 7 3, { 10 10 3, name 10 11 3, where 12 17 5, { 19 19 2, } 19 19 2, \
+         } 19 19 2, name 19 20 2",
     ),
     (
         "f where\n    g\n  h",
@@ -259,7 +269,8 @@ static BLOCKS: &[(&str, &str)] = &[
     ),
     (
         "let x\n    y\nin z",
-        "let 0 3 1, { 4 4 5, name 4 5 5, ; 10 10 5, name 10 11 5, } 12 12 1, in 12 14 1, name 15 16 4",
+        "let 0 3 1, { 4 4 5, name 4 5 5, ; 10 10 5, name 10 11 5, } 12 12 1, in 12 14 1, \
+         name 15 16 4",
     ),
     (
         "let in x",
@@ -267,27 +278,33 @@ static BLOCKS: &[(&str, &str)] = &[
     ),
     (
         "let let in in x",
-        "let 0 3 1, { 4 4 5, let 4 7 5, { 8 8 9, } 8 8 9, in 8 10 9, } 11 11 12, in 11 13 12, name 14 15 15",
+        "let 0 3 1, { 4 4 5, let 4 7 5, { 8 8 9, } 8 8 9, in 8 10 9, } 11 11 12, in 11 13 12, \
+         name 14 15 15",
     ),
     (
         "let a where in b",
-        "let 0 3 1, { 4 4 5, name 4 5 5, where 6 11 7, { 12 12 13, } 12 12 13, } 12 12 13, in 12 14 13, name 15 16 16",
+        "let 0 3 1, { 4 4 5, name 4 5 5, where 6 11 7, { 12 12 13, } 12 12 13, } 12 12 13, \
+         in 12 14 13, name 15 16 16",
     ),
     (
         "let a where b in c",
-        "let 0 3 1, { 4 4 5, name 4 5 5, where 6 11 7, { 12 12 13, name 12 13 13, } 14 14 15, } 14 14 15, in 14 16 15, name 17 18 18",
+        "let 0 3 1, { 4 4 5, name 4 5 5, where 6 11 7, { 12 12 13, name 12 13 13, } 14 14 15, \
+         } 14 14 15, in 14 16 15, name 17 18 18",
     ),
     (
         "let a = let b in c in d",
-        "let 0 3 1, { 4 4 5, name 4 5 5, = 6 7 7, let 8 11 9, { 12 12 13, name 12 13 13, } 14 14 15, in 14 16 15, name 17 18 18, } 19 19 20, in 19 21 20, name 22 23 23",
+        "let 0 3 1, { 4 4 5, name 4 5 5, = 6 7 7, let 8 11 9, { 12 12 13, name 12 13 13, \
+         } 14 14 15, in 14 16 15, name 17 18 18, } 19 19 20, in 19 21 20, name 22 23 23",
     ),
     (
         "let a\n    b where\n      c\n in d",
-        "let 0 3 1, { 4 4 5, name 4 5 5, ; 10 10 5, name 10 11 5, where 12 17 7, { 24 24 7, name 24 25 7, } 27 27 2, } 27 27 2, in 27 29 2, name 30 31 5",
+        "let 0 3 1, { 4 4 5, name 4 5 5, ; 10 10 5, name 10 11 5, where 12 17 7, { 24 24 7, \
+         name 24 25 7, } 27 27 2, } 27 27 2, in 27 29 2, name 30 31 5",
     ),
     (
         "(let x = y) z",
-        "( 0 1 1, let 1 4 2, { 5 5 6, name 5 6 6, = 7 8 8, name 9 10 10, ) 10 11 11, name 12 13 13, } 13 13 14",
+        "( 0 1 1, let 1 4 2, { 5 5 6, name 5 6 6, = 7 8 8, name 9 10 10, ) 10 11 11, \
+         name 12 13 13, } 13 13 14",
     ),
     (
         "let é = ℕ\n    λ",

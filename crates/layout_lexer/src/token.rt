@@ -105,9 +105,9 @@ pub enum Kind {
     Identifier,
 }
 
-/// A token of a text: the bytes from `start` to before `end` are its own, and its first character stands in that
-/// column. A mark has no bytes: it starts and ends where the next token starts, at the end of the text where there is
-/// none, and has the column of that place.
+/// A token of a text: the bytes from `start` to before `end` are its own, and its first character
+/// stands in that column. A mark has no bytes: it starts and ends where the next token starts, at
+/// the end of the text where there is none, and has the column of that place.
 #[derive(Clone, Copy, Debug, PartialEq, Eq)]
 pub struct Token {
     pub kind: Kind,

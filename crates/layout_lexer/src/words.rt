@@ -8,7 +8,8 @@ ghost use Rattle.layout_lexer.specs.declared.token.Kind.TheVariants.{Identifier}
 
 use crate::token::Kind;
 
-/// The words that are no identifiers: keywords, and words that every grammar refuses. The shorter stand first.
+/// The words that are no identifiers: keywords, and words that every grammar refuses. The shorter
+/// stand first.
 static WORDS: &[Kind] = &[
     Kind::U,
     Kind::In,
@@ -33,7 +34,8 @@ static WORDS: &[Kind] = &[
     Kind::TransparentAll,
 ];
 
-/// How a token of this kind is spelled: a mark by nothing, and an identifier in no one way, so by nothing too.
+/// How a token of this kind is spelled: a mark by nothing, and an identifier in no one way, so by
+/// nothing too.
 pub fn spelling(kind: Kind) -> &'static str
     ensures { result.now ≡ spelling kind }
 {
@@ -85,7 +87,8 @@ pub fn spelling(kind: Kind) -> &'static str
     }
 }
 
-/// The first of these kinds that is so spelled. The search ends before the first whose spelling is longer.
+/// The first of these kinds that is so spelled. The search ends before the first whose spelling is
+/// longer.
 fn first_spelled(kinds: &[Kind], text: &[u8]) -> Option<Kind>
     requires { rises 0 kinds.now ≡ true }
     ensures { result ≡ spelled_in kinds.now text.now }

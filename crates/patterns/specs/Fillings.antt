@@ -1,13 +1,16 @@
 -- What a normal term with unknown parts means at given parts.
 use Rattle.std.specs.Prelude.{◌≡◌, ℕ}
 use Rattle.trees.specs.Language.{Ctx, Ty, TyEq, Tm, TmEq, Sb}
-use Rattle.trees.specs.Trees.{Tree, Trees, Var, Make, NoTrees, More, Subst, apply, shift_by, push, then}
+use Rattle.trees.specs.Trees.{Tree, Trees, Var, Make, NoTrees, More}
+use Rattle.trees.specs.Trees.{Subst, apply, shift_by, push, then}
 use Rattle.trees.specs.Judgements.{Context, Nil, WithVar, WithName, WithFace, trees, Judgement}
 use Rattle.substitution.specs.Forms.{drop}
 use Rattle.substitution.specs.Action.{look}
 use Rattle.patterns.specs.Patterns.{ContextPart, Empty, AddVar, AddName, AddFace}
 use Rattle.patterns.specs.Values.{Parts}
-use Rattle.patterns.specs.Normals.{Normal, Normals, NormalSubst, NVar, NMake, NPart, NEntry, NoNormals, MoreNormals, NShift, NPush, NRest, NormalContext, normals}
+use Rattle.patterns.specs.Normals.{Normal, Normals, NormalSubst, NVar, NMake, NPart, NEntry}
+use Rattle.patterns.specs.Normals.{NoNormals, MoreNormals, NShift, NPush, NRest, NormalContext}
+use Rattle.patterns.specs.Normals.{normals}
 use Rattle.patterns.specs.Tests.{NormalJudgement}
 
 abbrev mutual

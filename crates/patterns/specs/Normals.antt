@@ -1,5 +1,6 @@
 -- Normal terms with unknown parts, each under a normal substitution; how they are substituted.
-use Rattle.std.specs.Prelude.{ℕ, zero, suc, ◌+◌, ◌-◌, List, [], ◌∷◌, Bool, true, false, ◌&&◌, ◌==◌, if◌then◌else◌}
+use Rattle.std.specs.Prelude.{ℕ, zero, suc, ◌+◌, ◌-◌, List, [], ◌∷◌, Bool}
+use Rattle.std.specs.Prelude.{true, false, ◌&&◌, ◌==◌, if◌then◌else◌}
 use denote.Enum.Bare.{sameb}
 use Rattle.trees.specs.declared.op.Op.{Op}
 use Rattle.trees.specs.contracts.op.Op.{the_type}
@@ -52,9 +53,9 @@ abbrev mutual
   same_normal_subst (NRest n k s) (NRest m l r) = (n == m) && ((k == l) && same_normal_subst s r)
   same_normal_subst _ _ = false
 
--- A tail that does nothing is trimmed from a substitution that stands under a part, where its action alone counts:
--- `push (shift (n + 1)) (var n)` acts as `shift n`, and what a part makes of its first index, pushed on the rest of
--- the part, acts as the part.
+-- A tail that does nothing is trimmed from a substitution that stands under a part, where its
+-- action alone counts: `push (shift (n + 1)) (var n)` acts as `shift n`, and what a part makes of
+-- its first index, pushed on the rest of the part, acts as the part.
 
 abbrev pub is_var : ℕ → Normal → Bool
 is_var n (NVar m) = n == m
@@ -66,7 +67,8 @@ is_entry k n s _ = false
 
 abbrev pub push_trimmed : NormalSubst → Normal → NormalSubst
 push_trimmed (NShift (suc n)) t = (if is_var n t then NShift n else NPush (NShift (suc n)) t)
-push_trimmed (NRest (suc n) k s) t = (if is_entry k n s t then NRest n k s else NPush (NRest (suc n) k s) t)
+push_trimmed (NRest (suc n) k s) t =
+    (if is_entry k n s t then NRest n k s else NPush (NRest (suc n) k s) t)
 push_trimmed s t = NPush s t
 
 abbrev pub trimmed : NormalSubst → NormalSubst
@@ -90,7 +92,8 @@ abbrev mutual
 
   pub weaken_kids : ℕ → Op → ℕ → Normals → Normals
   weaken_kids c op at NoNormals = NoNormals
-  weaken_kids c op at (MoreNormals t ts) = MoreNormals (weaken_from (c + binds_of op at) t) (weaken_kids c op (suc at) ts)
+  weaken_kids c op at (MoreNormals t ts) =
+      MoreNormals (weaken_from (c + binds_of op at) t) (weaken_kids c op (suc at) ts)
 
   pub weaken_subst : ℕ → NormalSubst → NormalSubst
   weaken_subst c (NShift n) = shift_past (c - n) n
@@ -127,7 +130,8 @@ abbrev mutual
 
   pub apply_normals : NormalSubst → Op → ℕ → Normals → Normals
   apply_normals d op at NoNormals = NoNormals
-  apply_normals d op at (MoreNormals t ts) = MoreNormals (apply_normal (lift_normal (binds_of op at) d) t) (apply_normals d op (suc at) ts)
+  apply_normals d op at (MoreNormals t ts) =
+      MoreNormals (apply_normal (lift_normal (binds_of op at) d) t) (apply_normals d op (suc at) ts)
 
   -- s, and then d
   pub after : NormalSubst → NormalSubst → NormalSubst
@@ -163,4 +167,8 @@ normals = record {
 
 -- parts of which nothing is known
 abbrev pub unknown : Parts normals
-unknown = record { tree = λ k. NPart k (NShift 0); subst = λ k. NRest 0 k (NShift 0); context = ContextPart }
+unknown = record {
+  tree = λ k. NPart k (NShift 0);
+  subst = λ k. NRest 0 k (NShift 0);
+  context = ContextPart;
+}

@@ -1,10 +1,11 @@
--- Pairs of patterns that differ by one index, that the test does not find the same, and that mean different things at
--- the parts that stand beside them.
+-- Pairs of patterns that differ by one index, that the test does not find the same, and that mean
+-- different things at the parts that stand beside them.
 use Rattle.std.specs.Prelude.{◌≢◌, ℕ, Bool, not, List, [], ◌∷◌, codes}
 use Rattle.trees.specs.Language.{Ty, Sb}
 use Rattle.trees.specs.Trees.{Tree, Var, id}
 use Rattle.trees.specs.Things.{Thing, ATree, ASubst}
-use Rattle.patterns.specs.Patterns.{Pattern, Part, Index, Under, SubstPattern, SubstPart, ShiftBy, Pushed, Then, Empty, JudgementPattern, patterns}
+use Rattle.patterns.specs.Patterns.{Pattern, Part, Index, Under, SubstPattern, SubstPart, ShiftBy}
+use Rattle.patterns.specs.Patterns.{Pushed, Then, Empty, JudgementPattern, patterns}
 use Rattle.patterns.specs.Values.{parts_of, judgement_of}
 use Rattle.patterns.specs.Tests.{same_judgement}
 use Rattle.patterns.specs.Conclusions.{univ, lam, pi}
@@ -35,26 +36,42 @@ abbrev d : SubstPattern
 d = SubstPart 2
 
 abbrev differ : List ℕ → Pattern → Pattern → Tree → Tree → Refusal
-differ name p q tree_a tree_b = record { name = name; left = Ty Empty p; right = Ty Empty q; parts = ATree tree_a ∷ ATree tree_b ∷ ASubst id ∷ [] }
+differ name p q tree_a tree_b = record {
+  name = name;
+  left = Ty Empty p;
+  right = Ty Empty q;
+  parts = ATree tree_a ∷ ATree tree_b ∷ ASubst id ∷ [];
+}
 
 abbrev pub one_index_off : List Refusal
 one_index_off =
     -- a test that ignores the shift, or another number, of what is stuck would find these the same
     differ (codes "shift of a part") (Under A (ShiftBy 1)) (Under A (ShiftBy 2)) (Var 0) (Var 0)
-    ∷ differ (codes "shift after an abstract substitution") (Under A (Then d (ShiftBy 1))) (Under A (Then d (ShiftBy 2))) (Var 0) (Var 0)
-    ∷ differ (codes "index under an abstract substitution") (Under (Index 0) d) (Under (Index 1) d) (Var 0) (Var 0)
-    ∷ differ (codes "entries dropped from an abstract substitution") (Under A (Then (ShiftBy 1) d)) (Under A (Then (ShiftBy 2) d)) (Var 0) (Var 0)
+    ∷ differ (codes "shift after an abstract substitution")
+    (Under A (Then d (ShiftBy 1))) (Under A (Then d (ShiftBy 2))) (Var 0) (Var 0)
+    ∷ differ (codes "index under an abstract substitution")
+    (Under (Index 0) d) (Under (Index 1) d) (Var 0) (Var 0)
+    ∷ differ (codes "entries dropped from an abstract substitution")
+    (Under A (Then (ShiftBy 1) d)) (Under A (Then (ShiftBy 2) d)) (Var 0) (Var 0)
     -- one that trims a tail that isn't one
-    ∷ differ (codes "tail with a greater shift") (Under A (Pushed (ShiftBy 2) (Index 0))) A (Var 1) (Var 0)
-    ∷ differ (codes "tail with another variable") (Under A (Pushed (ShiftBy 1) (Index 1))) A (Var 0) (Var 0)
-    ∷ differ (codes "tail that drops two entries") (Under A (Pushed (Then (ShiftBy 2) d) (Under (Index 0) d))) (Under A d) (Var 1) (Var 0)
-    ∷ differ (codes "tail with the second entry first") (Under A (Pushed (Then (ShiftBy 1) d) (Under (Index 1) d))) (Under A d) (Var 0) (Var 0)
+    ∷ differ (codes "tail with a greater shift")
+    (Under A (Pushed (ShiftBy 2) (Index 0))) A (Var 1) (Var 0)
+    ∷ differ (codes "tail with another variable")
+    (Under A (Pushed (ShiftBy 1) (Index 1))) A (Var 0) (Var 0)
+    ∷ differ (codes "tail that drops two entries")
+    (Under A (Pushed (Then (ShiftBy 2) d) (Under (Index 0) d))) (Under A d) (Var 1) (Var 0)
+    ∷ differ (codes "tail with the second entry first")
+    (Under A (Pushed (Then (ShiftBy 1) d) (Under (Index 1) d))) (Under A d) (Var 0) (Var 0)
     -- a normaliser that forgets the cutoff under a binder
-    ∷ differ (codes "index that a binder keeps") (Under (lam patterns A (Index 0)) (ShiftBy 1)) (lam patterns (Under A (ShiftBy 1)) (Index 1)) (Var 0) (Var 0)
-    ∷ differ (codes "index past a binder") (Under (lam patterns A (Index 1)) (ShiftBy 1)) (lam patterns (Under A (ShiftBy 1)) (Index 1)) (Var 0) (Var 0)
-    ∷ differ (codes "part under a binder") (Under (pi patterns A B) (ShiftBy 1)) (pi patterns (Under A (ShiftBy 1)) (Under B (ShiftBy 1))) (Var 0) (Var 0)
+    ∷ differ (codes "index that a binder keeps") (Under (lam patterns A (Index 0)) (ShiftBy 1))
+    (lam patterns (Under A (ShiftBy 1)) (Index 1)) (Var 0) (Var 0)
+    ∷ differ (codes "index past a binder") (Under (lam patterns A (Index 1)) (ShiftBy 1))
+    (lam patterns (Under A (ShiftBy 1)) (Index 1)) (Var 0) (Var 0)
+    ∷ differ (codes "part under a binder") (Under (pi patterns A B) (ShiftBy 1))
+    (pi patterns (Under A (ShiftBy 1)) (Under B (ShiftBy 1))) (Var 0) (Var 0)
     ∷ differ (codes "index that a binder keeps in a pushed tree")
-    (Under (lam patterns (univ patterns) (Index 1)) (Pushed (ShiftBy 0) (lam patterns (univ patterns) (Index 0))))
+    (Under (lam patterns (univ patterns) (Index 1))
+    (Pushed (ShiftBy 0) (lam patterns (univ patterns) (Index 0))))
     (lam patterns (univ patterns) (lam patterns (univ patterns) (Index 1))) (Var 0) (Var 0)
     -- one that mixes up the parts
     ∷ differ (codes "another part") A B (Var 0) (Var 1)

@@ -1,9 +1,12 @@
--- Whether two patterns mean the same whatever their parts are: whether their normal terms are equal.
+-- Whether two patterns mean the same whatever their parts are: whether their normal terms are
+-- equal.
 use Rattle.std.specs.Prelude.{List, [], ◌∷◌, Bool, true, false, ◌&&◌, ◌==◌}
 use Rattle.trees.specs.Language.{Judged, Ctx, Ty, TyEq, Tm, TmEq, Sb}
-use Rattle.patterns.specs.Patterns.{Pattern, SubstPattern, ContextPattern, JudgementPattern, ContextPart, Empty, AddVar, AddName, AddFace}
+use Rattle.patterns.specs.Patterns.{Pattern, SubstPattern, ContextPattern, JudgementPattern}
+use Rattle.patterns.specs.Patterns.{ContextPart, Empty, AddVar, AddName, AddFace}
 use Rattle.patterns.specs.Values.{tree_of, subst_of, context_of, judged_of}
-use Rattle.patterns.specs.Normals.{Normal, NormalSubst, NormalContext, normals, unknown, same_normal, same_normal_subst}
+use Rattle.patterns.specs.Normals.{Normal, NormalSubst, NormalContext, normals}
+use Rattle.patterns.specs.Normals.{unknown, same_normal, same_normal_subst}
 
 abbrev pub NormalJudgement : Type 0
 NormalJudgement = Judged NormalContext Normal NormalSubst
@@ -19,10 +22,14 @@ same_normal_context _ _ = false
 abbrev pub same_normal_judgement : NormalJudgement → NormalJudgement → Bool
 same_normal_judgement (Ctx G) (Ctx H) = same_normal_context G H
 same_normal_judgement (Ty G A) (Ty H B) = same_normal_context G H && same_normal A B
-same_normal_judgement (TyEq G A X) (TyEq H B Y) = same_normal_context G H && (same_normal A B && same_normal X Y)
-same_normal_judgement (Tm G a A) (Tm H b B) = same_normal_context G H && (same_normal a b && same_normal A B)
-same_normal_judgement (TmEq G a x A) (TmEq H b y B) = same_normal_context G H && (same_normal a b && (same_normal x y && same_normal A B))
-same_normal_judgement (Sb G d X) (Sb H e Y) = same_normal_context G H && (same_normal_subst d e && same_normal_context X Y)
+same_normal_judgement (TyEq G A X) (TyEq H B Y) =
+    same_normal_context G H && (same_normal A B && same_normal X Y)
+same_normal_judgement (Tm G a A) (Tm H b B) =
+    same_normal_context G H && (same_normal a b && same_normal A B)
+same_normal_judgement (TmEq G a x A) (TmEq H b y B) =
+    same_normal_context G H && (same_normal a b && (same_normal x y && same_normal A B))
+same_normal_judgement (Sb G d X) (Sb H e Y) =
+    same_normal_context G H && (same_normal_subst d e && same_normal_context X Y)
 same_normal_judgement _ _ = false
 
 abbrev pub same_tree : Pattern → Pattern → Bool
@@ -36,7 +43,8 @@ abbrev pub same_context : ContextPattern → ContextPattern → Bool
 same_context G H = same_normal_context (context_of normals unknown G) (context_of normals unknown H)
 
 abbrev pub same_judgement : JudgementPattern → JudgementPattern → Bool
-same_judgement i j = same_normal_judgement (judged_of normals unknown i) (judged_of normals unknown j)
+same_judgement i j =
+    same_normal_judgement (judged_of normals unknown i) (judged_of normals unknown j)
 
 abbrev pub same_judgements : List JudgementPattern → List JudgementPattern → Bool
 same_judgements [] [] = true

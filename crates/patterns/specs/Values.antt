@@ -1,10 +1,14 @@
 -- What a pattern means at given parts, in any language.
 use Rattle.std.specs.Prelude.{ℕ, zero, suc, List, [], ◌∷◌}
-use Rattle.trees.specs.Language.{Language, Tested, Ctx, Ty, TyEq, Tm, TmEq, Sb, IsFormula, IsFace, Holds, Alike, JudgementOf}
+use Rattle.trees.specs.Language.{Language, Tested, Ctx, Ty, TyEq, Tm, TmEq, Sb, IsFormula}
+use Rattle.trees.specs.Language.{IsFace, Holds, Alike, JudgementOf}
 use Rattle.trees.specs.Trees.{Tree, Subst, Var, id}
 use Rattle.trees.specs.Judgements.{Context, Nil, trees, Judgement, SideCondition}
 use Rattle.trees.specs.Things.{Thing, ATree, ASubst, AContext}
-use Rattle.patterns.specs.Patterns.{Pattern, Part, Index, Build, Under, Patterns, NoPatterns, MorePatterns, SubstPattern, SubstPart, ShiftBy, Pushed, Then, ContextPattern, ContextPart, Empty, AddVar, AddName, AddFace, JudgementPattern, ConditionPattern}
+use Rattle.patterns.specs.Patterns.{Pattern, Part, Index, Build, Under, Patterns, NoPatterns}
+use Rattle.patterns.specs.Patterns.{MorePatterns, SubstPattern, SubstPart, ShiftBy, Pushed, Then}
+use Rattle.patterns.specs.Patterns.{ContextPattern, ContextPart, Empty, AddVar, AddName, AddFace}
+use Rattle.patterns.specs.Patterns.{JudgementPattern, ConditionPattern}
 
 module _ (L : Language) where
   -- what stands for each number: a tree, a substitution and a context

@@ -1,8 +1,9 @@
-//! Patterns: trees, substitutions, contexts and judgements with parts that are not known, and a test that two of them
-//! mean the same whatever the parts are.
+//! Patterns: trees, substitutions, contexts and judgements with parts that are not known, and a
+//! test that two of them mean the same whatever the parts are.
 //!
-//! Nothing here runs. A pattern is read in any language of trees; read in normal terms with unknown parts it computes to
-//! its normal form, and the tests compare normal forms. The functions below have what is proved as their contracts.
+//! Nothing here runs. A pattern is read in any language of trees; read in normal terms with unknown
+//! parts it computes to its normal form, and the tests compare normal forms. The functions below
+//! have what is proved as their contracts.
 #![tactic(auto)]
 
 ghost use Rattle.std.specs.Prelude.{◌≡◌, ℕ, true, length, map, List};
@@ -11,11 +12,16 @@ ghost use Rattle.trees.specs.Trees.{Tree, apply, then};
 ghost use Rattle.trees.specs.Judgements.{trees};
 ghost use Rattle.substitution.specs.Action.{ActAlike};
 ghost use Rattle.patterns.specs.Patterns.{Pattern, SubstPattern, ContextPattern, JudgementPattern};
-ghost use Rattle.patterns.specs.Values.{Parts, tree_of, subst_of, context_of, judged_of, judgement_of};
-ghost use Rattle.patterns.specs.Normals.{Normal, NormalSubst, normals, unknown, trimmed, apply_normal, after};
-ghost use Rattle.patterns.specs.Fillings.{Fits, filled, filled_subst, filled_context, filled_judgement};
-ghost use Rattle.patterns.specs.Tests.{same_tree, same_subst, same_context, same_judgement, same_judgements};
-ghost use Rattle.patterns.specs.Examples.{HoldsAtAll, pi_examples, sigma_examples, path_examples, filling_examples, law_examples, every_example};
+ghost use Rattle.patterns.specs.Values.{Parts, tree_of, subst_of, context_of};
+ghost use Rattle.patterns.specs.Values.{judged_of, judgement_of};
+ghost use Rattle.patterns.specs.Normals.{Normal, NormalSubst, normals, unknown};
+ghost use Rattle.patterns.specs.Normals.{trimmed, apply_normal, after};
+ghost use Rattle.patterns.specs.Fillings.{Fits, filled, filled_subst, filled_context};
+ghost use Rattle.patterns.specs.Fillings.{filled_judgement};
+ghost use Rattle.patterns.specs.Tests.{same_tree, same_subst, same_context};
+ghost use Rattle.patterns.specs.Tests.{same_judgement, same_judgements};
+ghost use Rattle.patterns.specs.Examples.{HoldsAtAll, pi_examples, sigma_examples, path_examples};
+ghost use Rattle.patterns.specs.Examples.{filling_examples, law_examples, every_example};
 ghost use Rattle.patterns.specs.Refusals.{is_refused, Differ, one_index_off};
 
 /// Two patterns that a test accepts mean the same at all parts.
@@ -32,16 +38,20 @@ pub fn tests_are_sound()
         same_judgements is js ≡ true → map (judgement_of v) is ≡ map (judgement_of v) js }
 {}
 
-/// A pattern read in normal terms u, filled in at the parts v, is the pattern read at the parts w that the terms are at v.
+/// A pattern read in normal terms u, filled in at the parts v, is the pattern read at the parts w
+/// that the terms are at v.
 pub fn normaliser_is_sound()
     ensures of_trees { (v : Parts trees) (u : Parts normals) (w : Parts trees) →
         Fits v u w → (p : Pattern) → filled v (tree_of normals u p) ≡ tree_of trees w p }
     ensures of_substs { (v : Parts trees) (u : Parts normals) (w : Parts trees) →
-        Fits v u w → (d : SubstPattern) → filled_subst v (subst_of normals u d) ≡ subst_of trees w d }
+        Fits v u w → (d : SubstPattern) →
+        filled_subst v (subst_of normals u d) ≡ subst_of trees w d }
     ensures of_contexts { (v : Parts trees) (u : Parts normals) (w : Parts trees) →
-        Fits v u w → (G : ContextPattern) → filled_context v (context_of normals u G) ≡ context_of trees w G }
+        Fits v u w → (G : ContextPattern) →
+        filled_context v (context_of normals u G) ≡ context_of trees w G }
     ensures of_judgements { (v : Parts trees) (u : Parts normals) (w : Parts trees) →
-        Fits v u w → (j : JudgementPattern) → filled_judgement v (judged_of normals u j) ≡ judgement_of w j }
+        Fits v u w → (j : JudgementPattern) →
+        filled_judgement v (judged_of normals u j) ≡ judgement_of w j }
     ensures of_unknown { (v : Parts trees) → Fits v unknown v }
 {}
 
@@ -51,11 +61,13 @@ pub fn normal_terms_are_trees()
         filled v (apply_normal d t) ≡ apply (filled v t) (filled_subst v d) }
     ensures then { (v : Parts trees) (d s : NormalSubst) →
         filled_subst v (after d s) ≡ then (filled_subst v s) (filled_subst v d) }
-    ensures trim { (v : Parts trees) (s : NormalSubst) → ActAlike (filled_subst v (trimmed s)) (filled_subst v s) }
+    ensures trim { (v : Parts trees) (s : NormalSubst) →
+        ActAlike (filled_subst v (trimmed s)) (filled_subst v s) }
 {}
 
-/// Examples: a substitution takes the conclusion of each rule of Pi, Sigma and PathP to the conclusion at the substituted
-/// parts, the line of filling has its ends, and the laws of substitution are found.
+/// Examples: a substitution takes the conclusion of each rule of Pi, Sigma and PathP to the
+/// conclusion at the substituted parts, the line of filling has its ends, and the laws of
+/// substitution are found.
 pub fn examples()
     ensures hold { All HoldsAtAll every_example }
     ensures pi { length pi_examples ≡ 9 }

@@ -1,5 +1,6 @@
 -- Points of a cube, and the valuations that lie over them.
-use Rattle.std.specs.Prelude.{◌≡◌, ℕ, zero, suc, Bool, true, false, List, [], ◌∷◌, map, slice_index_or, slice_set}
+use Rattle.std.specs.Prelude.{◌≡◌, ℕ, zero, suc, Bool, true, false, List}
+use Rattle.std.specs.Prelude.{[], ◌∷◌, map, slice_index_or, slice_set}
 use Rattle.points.specs.Values.{Value, zero_value, one_value, free_value, Valuation, value_at}
 
 -- what a point makes of a name

@@ -1,5 +1,6 @@
 -- What a formula of the interval is worth.
-use Rattle.std.specs.Prelude.{ℕ, zero, suc, Bool, true, false, ◌&&◌, ◌||◌, List, [], ◌∷◌, slice_index_or}
+use Rattle.std.specs.Prelude.{ℕ, zero, suc, Bool, true, false, ◌&&◌}
+use Rattle.std.specs.Prelude.{◌||◌, List, [], ◌∷◌, slice_index_or}
 
 -- whether a formula holds, and whether its negation does: neither tells of the other
 pub record Value : Type 0 where

@@ -1,13 +1,18 @@
-//! What formulas of the interval are worth: values, valuations and points of a cube. The definitions stand in `specs/`.
+//! What formulas of the interval are worth: values, valuations and points of a cube. The
+//! definitions stand in `specs/`.
 //!
-//! Nothing here runs: the functions have the laws of the definitions as their contracts, so that a check proves each.
+//! Nothing here runs: the functions have the laws of the definitions as their contracts, so that a
+//! check proves each.
 #![tactic(auto)]
 
 ghost use Rattle.std.specs.Prelude.{◌≡◌, ◌≢◌, ℕ, Bool, true, not};
-ghost use Rattle.points.specs.Values.{Value, zero_value, one_value, free_value, negation, meet, join, end_value, Valuation, value_at, with_value};
-ghost use Rattle.points.specs.Points.{Point, Free, coordinate_at, with_free, end_coordinate, with_end, coordinate_value, valuation_of, LiesOver};
+ghost use Rattle.points.specs.Values.{Value, zero_value, one_value, free_value, negation, meet};
+ghost use Rattle.points.specs.Values.{join, end_value, Valuation, value_at, with_value};
+ghost use Rattle.points.specs.Points.{Point, Free, coordinate_at, with_free, end_coordinate};
+ghost use Rattle.points.specs.Points.{with_end, coordinate_value, valuation_of, LiesOver};
 
-/// Values are a De Morgan algebra with the ends as its bounds; negation swaps the ends and keeps the value of a free name.
+/// Values are a De Morgan algebra with the ends as its bounds; negation swaps the ends and keeps
+/// the value of a free name.
 pub fn laws_of_values()
     ensures negation_negation { (v : Value) → negation (negation v) ≡ v }
     ensures negation_meet { (v w : Value) → negation (meet v w) ≡ join (negation v) (negation w) }
@@ -27,7 +32,8 @@ pub fn laws_of_values()
     ensures free_is_no_end { (end : Bool) → free_value ≢ end_value end }
 {}
 
-/// A valuation with another value for one name: that is its value there, and all other names keep theirs.
+/// A valuation with another value for one name: that is its value there, and all other names keep
+/// theirs.
 pub fn laws_of_valuations()
     ensures at_the_name { (name : ℕ) (v : Value) (valuation : Valuation) →
         value_at (with_value name v valuation) name ≡ v }
@@ -35,7 +41,8 @@ pub fn laws_of_valuations()
         other ≢ name → value_at (with_value name v valuation) other ≡ value_at valuation other }
 {}
 
-/// A point with a name made free or put at an end, the valuation that a point is, and the valuations over it.
+/// A point with a name made free or put at an end, the valuation that a point is, and the
+/// valuations over it.
 pub fn laws_of_points()
     ensures free_at_the_name { (name : ℕ) (x : Point) →
         coordinate_at (with_free name x) name ≡ Free }

@@ -16,12 +16,18 @@ mixed s =
     let a3 = bit_xor (rotate_left w64 s.v3 16) a2 in
     let low = wrapping_add a2 a1 in
     let high = wrapping_add (rotate_left w64 a0 32) a3 in
-    record { v0 = high; v1 = bit_xor (rotate_left w64 a1 17) low; v2 = rotate_left w64 low 32; v3 = bit_xor (rotate_left w64 a3 21) high }
+    record {
+      v0 = high;
+      v1 = bit_xor (rotate_left w64 a1 17) low;
+      v2 = rotate_left w64 low 32;
+      v3 = bit_xor (rotate_left w64 a3 21) high;
+    }
 
 -- the state after one more word
 unfoldable pub added : State → ℕ → State
 added s word =
-    let next = mixed (record s { v3 = bit_xor s.v3 word }) in record next { v0 = bit_xor next.v0 word }
+    let next = mixed (record s { v3 = bit_xor s.v3 word }) in
+    record next { v0 = bit_xor next.v0 word }
 
 -- the words of the row, then their number, and three rounds more
 unfoldable pub hash_of : List ℕ → ℕ

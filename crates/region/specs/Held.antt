@@ -10,7 +10,8 @@ pub record Held : Type 0 where
 
 -- equal rows have equal numbers
 abbrev pub AreDistinct : List (List ℕ) → Type 0
-AreDistinct rows = (i j : ℕ) → i < length rows → j < length rows → slice_get rows i ≡ slice_get rows j → i ≡ j
+AreDistinct rows =
+    (i j : ℕ) → i < length rows → j < length rows → slice_get rows i ≡ slice_get rows j → i ≡ j
 
 -- the spare is not less than before
 pub record KeepsSpare (old new : Held) : Type 0 where

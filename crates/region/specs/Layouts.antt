@@ -1,5 +1,6 @@
 -- How rows stand in chunks of words.
-use Rattle.std.specs.Prelude.{◌≡◌, ℕ, ◌+◌, ◌-◌, ◌*◌, ◌^◌, ◌<◌, ◌≤◌, ◌⊎◌, min, List, [], length, map, slice_index_or, slice_range, Vec}
+use Rattle.std.specs.Prelude.{◌≡◌, ℕ, ◌+◌, ◌-◌, ◌*◌, ◌^◌, ◌<◌, ◌≤◌, ◌⊎◌, min, List}
+use Rattle.std.specs.Prelude.{[], length, map, slice_index_or, slice_range, Vec}
 use Rattle.std.specs.List.{All, AllPairs}
 use Rattle.std.specs.Vec.{vec_capacity}
 use Rattle.std.specs.declared.alloc.Global.{Global}
@@ -64,10 +65,13 @@ pub record IsChunkFor (old new : List Chunk) (current size at : ℕ) : Type 0 wh
   pub fits : length (words_of (words_in new) at) + size ≤ chunk_words
   pub which :
       ((at ≡ current) × (length new ≡ length old))
-      ⊎ ((at ≡ current + 1) × (words_of (words_in new) at ≡ []) × (chunk_words < length (words_of (words_in old) current) + size))
+      ⊎ ((at ≡ current + 1) × (words_of (words_in new) at ≡ []) ×
+      (chunk_words < length (words_of (words_in old) current) + size))
 
--- words that surely have room: half of each chunk after the current one, and of that one what is left up to half of it. A row
--- that doesn't fit in what is left of a chunk goes into the next, and what is left is lost
+-- words that surely have room: half of each chunk after the current one, and of that one what is
+-- left up to half of it. A row that doesn't fit in what is left of a chunk goes into the next, and
+-- what is left is lost
 abbrev pub spare_in : List Chunk → ℕ → ℕ
 spare_in chunks current =
-    2048 * (length chunks - (current + 1)) + min 2048 (chunk_words - length (words_of (words_in chunks) current))
+    2048 * (length chunks - (current + 1)) +
+    min 2048 (chunk_words - length (words_of (words_in chunks) current))

@@ -1,5 +1,7 @@
 -- Tables of slots that find rows by their hashes.
-use Rattle.std.specs.Prelude.{◌≡◌, ℕ, zero, suc, ◌+◌, ◌-◌, ◌*◌, ◌/◌, ◌%◌, ◌^◌, ◌<◌, max, List, length, nat_lt, if◌then◌else◌, bit_and, bit_or, slice_index, slice_set}
+use Rattle.std.specs.Prelude.{◌≡◌, ℕ, zero, suc, ◌+◌, ◌-◌, ◌*◌, ◌/◌, ◌%◌, ◌^◌, ◌<◌, max, List}
+use Rattle.std.specs.Prelude.{length, nat_lt, if◌then◌else◌, bit_and, bit_or, slice_index}
+use Rattle.std.specs.Prelude.{slice_set}
 
 -- how many slots a search looks at in runs, before it goes over all slots in order
 abbrev pub in_runs : ℕ
@@ -9,8 +11,9 @@ in_runs = 2048
 abbrev pub reach : ℕ → ℕ
 reach size = in_runs + size
 
--- the slot of a table of so many that a search for this hash looks at when it has looked at so many others: runs of 16, each a
--- leap of the hash's own after the one before, and then all slots in order
+-- the slot of a table of so many that a search for this hash looks at when it has looked at so many
+-- others: runs of 16, each a leap of the hash's own after the one before, and then all slots in
+-- order
 unfoldable pub searched : ℕ → ℕ → ℕ → ℕ
 searched size hash at =
     let leap = bit_or (hash / 2 ^ 32) 1 in
@@ -27,7 +30,8 @@ most_rows size = size - size / 4
 
 -- the search passes taken slots alone before the one that it comes to after so many
 abbrev pub PassesTaken : List ℕ → ℕ → ℕ → Type 0
-PassesTaken marks hash at = (j : ℕ) → j < at → 0 < slice_index marks (searched (length marks) hash j)
+PassesTaken marks hash at =
+    (j : ℕ) → j < at → 0 < slice_index marks (searched (length marks) hash j)
 
 -- the first free slot that a search for this hash comes to
 pub record IsFirstFree (marks : List ℕ) (hash slot : ℕ) : Type 0 where
@@ -40,7 +44,8 @@ pub record IsFirstFree (marks : List ℕ) (hash slot : ℕ) : Type 0 where
 abbrev pub HasFree : List ℕ → Type 0
 HasFree marks = (i : ℕ) × (i < length marks) × (slice_index marks i ≡ 0)
 
--- the slot names this row, the slot was free, and a search for the row passes taken slots alone before it
+-- the slot names this row, the slot was free, and a search for the row passes taken slots alone
+-- before it
 pub record IsNewest (hash : ℕ) (marks ids : List ℕ) (id slot : ℕ) : Type 0 where
   pub at : ℕ
   pub within : at < reach (length marks)
@@ -49,11 +54,13 @@ pub record IsNewest (hash : ℕ) (marks ids : List ℕ) (id slot : ℕ) : Type 0
   pub names : slice_index ids slot ≡ id
   pub passed : PassesTaken (slice_set marks slot 0) hash at
 
--- the table of the first n rows of these hashes, put in one after another: without the last one it is the table of the others
+-- the table of the first n rows of these hashes, put in one after another: without the last one it
+-- is the table of the others
 abbrev pub IsTable : (ℕ → ℕ) → List ℕ → List ℕ → ℕ → Type 0
 IsTable hashes marks ids zero = (i : ℕ) → i < length marks → slice_index marks i ≡ 0
 IsTable hashes marks ids (suc n) =
-    (slot : ℕ) × IsNewest (hashes n) marks ids n slot × IsTable hashes (slice_set marks slot 0) ids n
+    (slot : ℕ) × IsNewest (hashes n) marks ids n slot ×
+    IsTable hashes (slice_set marks slot 0) ids n
 
 -- a taken slot names the row; with it taken away the table is this
 pub record IsTakenAway (marks ids : List ℕ) (id : ℕ) (left : List ℕ) : Type 0 where

@@ -1,7 +1,7 @@
 //! The hash of a row: SipHash-1-3, word by word.
 //!
-//! Its key is a constant, so whoever writes a file can compute it. It mixes so well that no way is known to make rows whose
-//! hashes share chosen bits other than by trying rows.
+//! Its key is a constant, so whoever writes a file can compute it. It mixes so well that no way is
+//! known to make rows whose hashes share chosen bits other than by trying rows.
 
 ghost use Rattle.std.specs.Prelude.{◌≡◌};
 ghost use Rattle.region.specs.Hashes.{added, mixed, hash_of};

@@ -1,6 +1,7 @@
 //! The region: rows with the table that finds them.
 
-ghost use Rattle.std.specs.Prelude.{◌≡◌, ◌+◌, ◌<◌, ◌≤◌, ◌^◌, ◌++◌, ◌∷◌, [], length, take, Some, IfOk, OnOk, OnErr, IsOk, slice_get};
+ghost use Rattle.std.specs.Prelude.{◌≡◌, ◌+◌, ◌<◌, ◌≤◌, ◌^◌, ◌++◌, ◌∷◌, [], length, take};
+ghost use Rattle.std.specs.Prelude.{Some, IfOk, OnOk, OnErr, IsOk, slice_get};
 ghost use Rattle.std.specs.List.{Contains};
 ghost use Rattle.region.specs.Hashes.{hash_of};
 ghost use Rattle.region.specs.Tables.{IsFirstFree, most_rows};
@@ -21,10 +22,12 @@ pub const MOST_WORDS: usize = CHUNK_WORDS;
 /// The slots of the first table.
 const FIRST_SLOTS: usize = 16;
 
-/// The most rows that a table tells apart. With a place and a slot each they take more than a pebibyte.
+/// The most rows that a table tells apart. With a place and a slot each they take more than a
+/// pebibyte.
 const MOST_ROWS: usize = 1 << 46;
 
-/// Interned rows of words. Contracts see the list of the rows, and for how many more rows and words there is room.
+/// Interned rows of words. Contracts see the list of the rows, and for how many more rows and words
+/// there is room.
 #[derive(Drop)]
 pub struct Region {
     store: Store,
@@ -86,7 +89,8 @@ impl Region {
         self.store.row(id.0)
     }
 
-    /// Room for so many more rows and, in them, words. After an error the rows are as before, and the room is not less.
+    /// Room for so many more rows and, in them, words. After an error the rows are as before, and
+    /// the room is not less.
     #[tactic(auto, using(crate::proofs::SlotLaws::length_marks))]
     pub fn reserve(&mut self, rows: u64, words: u64) -> Result<(), AllocError>
         ensures rows { self.new.rows ≡ self.old.rows }
@@ -98,9 +102,11 @@ impl Region {
         make_room(&self.store, &mut self.table, rows as usize)
     }
 
-    /// The row with these words, of which there are at most 4,096: one that stands, or else a new one.
+    /// The row with these words, of which there are at most 4,096: one that stands, or else a new
+    /// one.
     ///
-    /// Only a new row that the room doesn't cover can be out of memory, and then the rows are as before.
+    /// Only a new row that the room doesn't cover can be out of memory, and then the rows are as
+    /// before.
     #[tactic(auto, using(crate::proofs::SlotLaws::length_marks))]
     pub fn intern(&mut self, row: &[u64]) -> Result<RowId, AllocError>
         requires { length row.now ≤ 4096 }
@@ -124,13 +130,15 @@ impl Region {
         Ok(RowId(id))
     }
 
-    /// Only the rows of the mark stay. No other row can be found any more, and the room of all stays reserved.
+    /// Only the rows of the mark stay. No other row can be found any more, and the room of all
+    /// stays reserved.
     #[tactic(auto, using(crate::proofs::SlotLaws::length_marks))]
     pub fn release(&mut self, mark: Mark)
         requires { mark.0 ≤ length self.old.rows }
         ensures rows { self.new.rows ≡ take mark.0 self.old.rows }
         ensures kept { KeepsSpare self.old self.new }
-        ensures regained { self.old.spare_rows + length self.old.rows ≤ self.new.spare_rows + mark.0 }
+        ensures regained { self.old.spare_rows + length self.old.rows ≤
+            self.new.spare_rows + mark.0 }
     {
         let mut len = self.store.len() as u64;
         'back: while mark.0 < len {
@@ -154,7 +162,8 @@ enum Found {
 #[tactic(auto, using(crate::proofs::SlotLaws::length_marks))]
 fn search(table: &Table, store: &Store, hash: u64, row: &[u64]) -> Found
     requires hash { hash ≡ hash_of row.now }
-    requires rows { AreInterned store.now.rows (marks_in table.now.slots.items) (rows_in table.now.slots.items) }
+    requires rows { AreInterned store.now.rows
+        (marks_in table.now.slots.items) (rows_in table.now.slots.items) }
     ensures { IsFound store.now.rows (marks_in table.now.slots.items) row.now result }
 {
     let mark = mark_of(hash);
@@ -174,16 +183,20 @@ fn search(table: &Table, store: &Store, hash: u64, row: &[u64]) -> Found
     unreachable!()
 }
 
-/// The slot for one more row: the one that was found or, where the table has no room, one of a larger table.
+/// The slot for one more row: the one that was found or, where the table has no room, one of a
+/// larger table.
 #[tactic(auto, using(crate::proofs::SlotLaws::length_marks))]
 fn free_slot(store: &Store, table: &mut Table, hash: u64, slot: usize) -> Result<usize, AllocError>
-    requires rows { AreInterned store.now.rows (marks_in table.old.slots.items) (rows_in table.old.slots.items) }
+    requires rows { AreInterned store.now.rows
+        (marks_in table.old.slots.items) (rows_in table.old.slots.items) }
     requires found { IsFirstFree (marks_in table.old.slots.items) hash slot }
-    ensures rows { AreInterned store.now.rows (marks_in table.new.slots.items) (rows_in table.new.slots.items) }
+    ensures rows { AreInterned store.now.rows
+        (marks_in table.new.slots.items) (rows_in table.new.slots.items) }
     ensures first { IfOk result (IsFirstFree (marks_in table.new.slots.items) hash) }
     ensures room { OnOk result (length store.now.rows < most_rows (length table.new.slots.items)) }
     ensures kept { length table.old.slots.items ≤ length table.new.slots.items }
-    ensures succeeds { length store.now.rows < most_rows (length table.old.slots.items) → IsOk result }
+    ensures succeeds { length store.now.rows < most_rows (length table.old.slots.items) →
+        IsOk result }
 {
     if store.len() < most_rows(table.size()) {
         return Ok(slot);
@@ -195,11 +208,15 @@ fn free_slot(store: &Store, table: &mut Table, hash: u64, slot: usize) -> Result
 /// Makes the table larger where it has no room for so many more rows than are stored.
 #[tactic(auto, using(crate::proofs::SlotLaws::length_marks))]
 fn make_room(store: &Store, table: &mut Table, more: usize) -> Result<(), AllocError>
-    requires { AreInterned store.now.rows (marks_in table.old.slots.items) (rows_in table.old.slots.items) }
-    ensures rows { AreInterned store.now.rows (marks_in table.new.slots.items) (rows_in table.new.slots.items) }
-    ensures ok { OnOk result (length store.now.rows + more ≤ most_rows (length table.new.slots.items)) }
+    requires { AreInterned store.now.rows
+        (marks_in table.old.slots.items) (rows_in table.old.slots.items) }
+    ensures rows { AreInterned store.now.rows
+        (marks_in table.new.slots.items) (rows_in table.new.slots.items) }
+    ensures ok { OnOk result
+        (length store.now.rows + more ≤ most_rows (length table.new.slots.items)) }
     ensures kept { length table.old.slots.items ≤ length table.new.slots.items }
-    ensures succeeds { length store.now.rows + more ≤ most_rows (length table.old.slots.items) → IsOk result }
+    ensures succeeds { length store.now.rows + more ≤ most_rows (length table.old.slots.items) →
+        IsOk result }
 {
     if most_rows(table.size()) - store.len() < more {
         let alloc = *table.slots.allocator();
@@ -214,7 +231,8 @@ fn larger_table(alloc: Global, store: &Store, more: usize) -> Result<Table, Allo
     requires { AreDistinct store.now.rows }
     ensures rows { IfOk result (λ t.
         AreInterned store.now.rows (marks_in t.slots.items) (rows_in t.slots.items)) }
-    ensures room { IfOk result (λ t. length store.now.rows + more ≤ most_rows (length t.slots.items)) }
+    ensures room { IfOk result
+        (λ t. length store.now.rows + more ≤ most_rows (length t.slots.items)) }
 {
     let wanted = store.len().saturating_add(more);
     if MOST_ROWS < wanted {

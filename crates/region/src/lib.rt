@@ -1,8 +1,8 @@
 //! Interned rows of words: equal rows are kept once, under one number, and lent without copying.
 //!
-//! The words of rows stand in chunks of 4,096, each row whole in one chunk, and are never moved. A table of slots finds a row
-//! by its words. `reserve` makes room beforehand, so that what follows cannot be out of memory, and `release` takes the newest
-//! rows back and keeps their room.
+//! The words of rows stand in chunks of 4,096, each row whole in one chunk, and are never moved. A
+//! table of slots finds a row by its words. `reserve` makes room beforehand, so that what follows
+//! cannot be out of memory, and `release` takes the newest rows back and keeps their room.
 #![tactic(auto)]
 
 mod hash;

@@ -1,9 +1,11 @@
 //! Rows of words in chunks.
 //!
-//! A row stands whole in one chunk. A chunk has room for its 4,096 words from the first, so it never moves. A row goes into the
-//! current chunk or, where it doesn't fit there, into the next one.
+//! A row stands whole in one chunk. A chunk has room for its 4,096 words from the first, so it
+//! never moves. A row goes into the current chunk or, where it doesn't fit there, into the next
+//! one.
 
-ghost use Rattle.std.specs.Prelude.{◌≡◌, ◌+◌, ◌*◌, ◌<◌, ◌≤◌, ◌^◌, ◌↔◌, [], ◌∷◌, ◌++◌, length, take, IfOk, OnOk, OnErr, IsOk, slice_get};
+ghost use Rattle.std.specs.Prelude.{◌≡◌, ◌+◌, ◌*◌, ◌<◌, ◌≤◌, ◌^◌, ◌↔◌, [], ◌∷◌, ◌++◌, length};
+ghost use Rattle.std.specs.Prelude.{take, IfOk, OnOk, OnErr, IsOk, slice_get};
 ghost use Rattle.region.specs.Layouts.{AreChunks, KeepsChunks, IsChunkFor, spare_in};
 
 use std::alloc::{AllocError, Global};
@@ -80,7 +82,8 @@ impl Store {
         &self.chunks[place.chunk as usize][start..start + place.length as usize]
     }
 
-    /// Room for so many more rows and words. After an error the rows are as before, and the room is not less.
+    /// Room for so many more rows and words. After an error the rows are as before, and the room is
+    /// not less.
     pub fn reserve(&mut self, rows: usize, words: usize) -> Result<(), AllocError>
         ensures rows { self.new.rows ≡ self.old.rows }
         ensures room { OnOk result (rows ≤ self.new.room) }

@@ -1,12 +1,15 @@
 //! A table of slots that finds rows by their hashes.
 //!
-//! A search looks at runs of 16 slots that stand side by side, and leaps from run to run. Where it begins and how far it leaps
-//! are other bits of the hash, so that searches that meet in one run part again. After 128 runs it goes over all slots in
-//! order, so that it always comes to an end. A new row takes the first free slot of its search, and the newest row's slot is
-//! the first that becomes free again: so a free slot on a search says that the row is not there.
+//! A search looks at runs of 16 slots that stand side by side, and leaps from run to run. Where it
+//! begins and how far it leaps are other bits of the hash, so that searches that meet in one run
+//! part again. After 128 runs it goes over all slots in order, so that it always comes to an end. A
+//! new row takes the first free slot of its search, and the newest row's slot is the first that
+//! becomes free again: so a free slot on a search says that the row is not there.
 
-ghost use Rattle.std.specs.Prelude.{◌≡◌, ◌+◌, ◌<◌, ◌≤◌, ◌^◌, [], length, replicate, IfOk, slice_index, slice_set};
-ghost use Rattle.region.specs.Tables.{IsFirstFree, HasFree, IsNamed, IsTakenAway, reach, searched, mark_of, most_rows};
+ghost use Rattle.std.specs.Prelude.{◌≡◌, ◌+◌, ◌<◌, ◌≤◌, ◌^◌, [], length, replicate};
+ghost use Rattle.std.specs.Prelude.{IfOk, slice_index, slice_set};
+ghost use Rattle.region.specs.Tables.{IsFirstFree, HasFree, IsNamed, IsTakenAway};
+ghost use Rattle.region.specs.Tables.{reach, searched, mark_of, most_rows};
 ghost use Rattle.region.specs.Slots.{IsSized, row_of, marks_in, rows_in};
 
 use std::alloc::{AllocError, Global};
@@ -20,8 +23,8 @@ const RUN: usize = 16;
 /// How many slots a search looks at in runs, before it goes over all slots in order.
 const IN_RUNS: usize = 128 * RUN;
 
-/// A slot: 16 bits of the hash of its row, so that most other rows are told apart without a look at their words, and the number
-/// of the row, of 48 bits, in two parts, so that a slot takes 8 bytes.
+/// A slot: 16 bits of the hash of its row, so that most other rows are told apart without a look at
+/// their words, and the number of the row, of 48 bits, in two parts, so that a slot takes 8 bytes.
 #[derive(Clone, Copy)]
 pub struct Slot {
     pub mark: u16,
@@ -141,8 +144,10 @@ impl Table {
     pub fn put(&mut self, slot: usize, hash: u64, row: u64)
         requires slot { slot < length self.old.slots.items }
         requires row { row < 2 ^ 48 }
-        ensures marks { marks_in self.new.slots.items ≡ slice_set (marks_in self.old.slots.items) slot (mark_of hash) }
-        ensures rows { rows_in self.new.slots.items ≡ slice_set (rows_in self.old.slots.items) slot row }
+        ensures marks { marks_in self.new.slots.items ≡
+            slice_set (marks_in self.old.slots.items) slot (mark_of hash) }
+        ensures rows { rows_in self.new.slots.items ≡
+            slice_set (rows_in self.old.slots.items) slot row }
     {
         self.slots[slot] = Slot::new(mark_of(hash), row);
     }
@@ -169,7 +174,8 @@ impl Table {
     #[tactic(auto, using(crate::proofs::SlotLaws::length_marks))]
     pub fn remove(&mut self, hash: u64, row: u64)
         requires { IsNamed (marks_in self.old.slots.items) (rows_in self.old.slots.items) hash row }
-        ensures marks { IsTakenAway (marks_in self.old.slots.items) (rows_in self.old.slots.items) row
+        ensures marks { IsTakenAway (marks_in self.old.slots.items)
+            (rows_in self.old.slots.items) row
             (marks_in self.new.slots.items) }
         ensures rows { rows_in self.new.slots.items ≡ rows_in self.old.slots.items }
     {

@@ -59,7 +59,8 @@ fn words(alloc: Global, row: u64, length: u64) -> Result<Vec<u64>, Fail> {
     Ok(words)
 }
 
-/// The first chunk is filled to its last word, the fourth row lacks one word to fit beside the third, and a row may fill a chunk.
+/// The first chunk is filled to its last word, the fourth row lacks one word to fit beside the
+/// third, and a row may fill a chunk.
 const LENGTHS: [u64; 8] = [0, 1, 4_095, 2, 4_095, 4_096, 1, 4_096];
 
 #[test]

@@ -1,5 +1,6 @@
 -- What the rows of a file mean that were read so far, over the rows of a store.
-use Rattle.std.specs.Prelude.{◌≡◌, ◌≤◌, ℕ, List, true, Option, Some, None, IsSome, is_some, unwrap_or, slice_get, map, option_and_then}
+use Rattle.std.specs.Prelude.{◌≡◌, ◌≤◌, ℕ, List, true, Option, Some, None, IsSome, is_some}
+use Rattle.std.specs.Prelude.{unwrap_or, slice_get, map, option_and_then}
 use Rattle.std.specs.List.{list_all}
 use Rattle.trees.specs.Judgements.{Judgement, TreeRule}
 use Rattle.trees.specs.Trees.{Subst, greatest_shift}
@@ -14,7 +15,8 @@ use Rattle.replay.specs.declared.filed.Filed.TheVariants as filed
 -- what a row of the file means, where its rows are in the store and of the right kinds
 abbrev pub filed_meaning : List Thing → Filed → Option Meaning
 filed_meaning xs (filed.Thing at) = option_and_then (λ x. Some (Means x)) (slice_get xs at)
-filed_meaning xs (filed.Node claim) = option_and_then (λ J. Some (Concludes J)) (claimed (slice_get xs) claim)
+filed_meaning xs (filed.Node claim) =
+    option_and_then (λ J. Some (Concludes J)) (claimed (slice_get xs) claim)
 filed_meaning xs filed.Nothing = Some Nothing
 
 abbrev pub file_meanings : List Thing → List Filed → List Meaning
@@ -35,7 +37,8 @@ wants_of = option_and_then (λ r. Some r.wants)
 -- what is kept of a row after rows with these meanings, if the row is right
 abbrev pub FiledIs : List Meaning → List Thing → Row → Option Filed → Type 0
 FiledIs before xs row None = (m : Meaning) → RightRow before row m → ⊥
-FiledIs before xs row (Some r) = (m : Meaning) × RightRow before row m × (filed_meaning xs r ≡ Some m)
+FiledIs before xs row (Some r) =
+    (m : Meaning) × RightRow before row m × (filed_meaning xs r ≡ Some m)
 
 -- the row of the store that is a thing, if there is one
 abbrev pub MadeAs : Option Thing → List Thing → Option ℕ → Type 0

@@ -1,6 +1,7 @@
 //! The rows of a file that are right, in order.
 
-ghost use Rattle.std.specs.Prelude.{◌≡◌, ◌==◌, ◌<◌, ◌++◌, ◌∷◌, [], length, slice_get, IfOk, OnOk, OnErr, Some};
+ghost use Rattle.std.specs.Prelude.{◌≡◌, ◌==◌, ◌<◌, ◌++◌, ◌∷◌, [], length};
+ghost use Rattle.std.specs.Prelude.{slice_get, IfOk, OnOk, OnErr, Some};
 ghost use Rattle.replay.specs.Held.{Longer, filed_as};
 
 use crate::filed::Filed;

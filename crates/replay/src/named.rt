@@ -1,6 +1,7 @@
 //! The things that a row of the file names.
 
-ghost use Rattle.std.specs.Prelude.{◌≡◌, ◌<◌, length, slice_get, option_map, IfOk, IfSome, IfNone, Some};
+ghost use Rattle.std.specs.Prelude.{◌≡◌, ◌<◌, length, slice_get, option_map};
+ghost use Rattle.std.specs.Prelude.{IfOk, IfSome, IfNone, Some};
 ghost use Rattle.std.specs.List.{All};
 ghost use Rattle.trees.specs.Things.{kind_of};
 ghost use Rattle.rows.specs.Shown.{things};

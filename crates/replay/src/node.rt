@@ -1,6 +1,7 @@
 //! Whether a node is an instance of its rule.
 
-ghost use Rattle.std.specs.Prelude.{◌≡◌, ◌<◌, ◌↔◌, length, IfOk, OnOk, IfSome, IfNone, IsSome, IsTrue, Some};
+ghost use Rattle.std.specs.Prelude.{◌≡◌, ◌<◌, ◌↔◌, length, IfOk, OnOk, IfSome};
+ghost use Rattle.std.specs.Prelude.{IfNone, IsSome, IsTrue, Some};
 ghost use Rattle.std.specs.List.{All};
 ghost use Rattle.theory.specs.RuleNames.{kinds_of, premises_of};
 ghost use Rattle.trees.specs.Judgements.{Judgement};
@@ -39,7 +40,8 @@ fn premise_holds(
     ensures kept { Kept (store_means store.old) (store_means store.new) }
     ensures same { OnOk result (things store.new ≡ things store.old) }
     ensures holds { let xs = things store.old in IfOk result (λ holds. IsTrue holds ↔
-        (conclusion_at (file_meanings xs filed.now) premise ≡ premise_at at (rule_at_rows xs rule rows.now))) }
+        (conclusion_at (file_meanings xs filed.now) premise ≡
+        premise_at at (rule_at_rows xs rule rows.now))) }
 {
     let claim = match filed.row(premise) {
         Filed::Node(claim) => claim,
@@ -69,7 +71,8 @@ fn premises_hold(
     ensures kept { Kept (store_means store.old) (store_means store.new) }
     ensures same { OnOk result (things store.new ≡ things store.old) }
     ensures hold { let xs = things store.old in IfOk result (λ hold. IsTrue hold ↔
-        (conclusions_at (file_meanings xs filed.now) premises.now ≡ wants_of (rule_at_rows xs rule rows.now))) }
+        (conclusions_at (file_meanings xs filed.now) premises.now ≡
+        wants_of (rule_at_rows xs rule rows.now))) }
 {
     for at in 0..count_premises(rule) {
         let premise = premises[at as usize];
@@ -99,7 +102,8 @@ pub fn node_claim(
     ensures kept { Kept (store_means store.old) (store_means store.new) }
     ensures some { let before = file_meanings (things store.old) filed.now in
         IfOk result (λ found. IfSome found (λ claim. (J : Judgement) ×
-        RightNode before rule parts.now premises.now J × (claimed (store_means store.new) claim ≡ Some J))) }
+        RightNode before rule parts.now premises.now J ×
+        (claimed (store_means store.new) claim ≡ Some J))) }
     ensures none { let before = file_meanings (things store.old) filed.now in
         IfOk result (λ found. IfNone found ((J : Judgement) →
         RightNode before rule parts.now premises.now J → ⊥)) }

@@ -4,7 +4,8 @@ ghost use Rattle.std.specs.Prelude.{◌≡◌, IfOk};
 
 use std::alloc::AllocError;
 
-/// A number as it is kept, in half the room. Out of memory is the answer where there are more rows than such numbers.
+/// A number as it is kept, in half the room. Out of memory is the answer where there are more rows
+/// than such numbers.
 pub fn kept(number: u64) -> Result<u32, AllocError>
     ensures { IfOk result (λ kept. kept ≡ number) }
 {

@@ -102,8 +102,8 @@ impl RowJudge {
         self.filed.len()
     }
 
-    /// Adds a row that may stand at its place, if it is right. The answer says whether it is. Else, and out of memory, the
-    /// rows are as before.
+    /// Adds a row that may stand at its place, if it is right. The answer says whether it is. Else,
+    /// and out of memory, the rows are as before.
     pub fn add(&mut self, alloc: Global, row: &Row) -> Result<bool, AllocError>
         requires { (version : ℕ) × MayStand version (length (meant_by self.old)) row.now }
         ensures right { IfOk result (λ right. right ≡ true → (m : Meaning) ×

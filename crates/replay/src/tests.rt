@@ -241,8 +241,8 @@ fn one_thing_wrong_is_found(rt: HostRuntime) -> Result<(), Fail> {
 // The height of towers of successors.
 const HEIGHT: u64 = 2000;
 
-/// A file that makes a tower twice, one successor after the other, and has a node for each tree of the
-/// first; and then a node about a tree of the second.
+/// A file that makes a tower twice, one successor after the other, and has a node for each tree of
+/// the first; and then a node about a tree of the second.
 fn towers(alloc: Global) -> Result<String, AllocError> {
     let mut text = String::new(alloc);
     text.push_str("rules 1\nc nil\nn ctx.nil\nt zero\nt zero\nn zero 1 2\n")?;

@@ -34,7 +34,8 @@ fn made_row(
     requires earlier { All (λ k. k < length filed.now) kids.now }
     ensures kept { Kept (store_means store.old) (store_means store.new) }
     ensures made { let before = file_meanings (things store.old) filed.now in
-        IfOk result (MadeAs (thing_made (thing_at before) (row.Make op kids.now)) (things store.new)) }
+        IfOk result (MadeAs (thing_made (thing_at before) (row.Make op kids.now))
+        (things store.new)) }
 {
     let Some(rows) = named_rows(alloc, store, filed, kids, &TERMS[..kids.len()])? else {
         return Ok(None);
@@ -42,8 +43,8 @@ fn made_row(
     Ok(Some(store.make(op, &rows)?))
 }
 
-/// The row of the store for a row of the file that is a tree, a substitution or a context, where the rows that it names
-/// are things of the right kinds.
+/// The row of the store for a row of the file that is a tree, a substitution or a context, where
+/// the rows that it names are things of the right kinds.
 pub fn thing_row(
     alloc: Global,
     store: &mut RowStore,

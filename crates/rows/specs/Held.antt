@@ -1,12 +1,14 @@
 -- What rows in memory mean, and how their kids and substitutions stand beside them.
-use Rattle.std.specs.Prelude.{◌≡◌, ℕ, List, length, take, drop, Option, Some, None, IsSome, IsTrue, unwrap_or, Bool, true, false, slice_get, option_and_then, sum_by}
+use Rattle.std.specs.Prelude.{◌≡◌, ℕ, List, length, take, drop, Option, Some, None, IsSome, IsTrue}
+use Rattle.std.specs.Prelude.{unwrap_or, Bool, true, false, slice_get, option_and_then, sum_by}
 use Rattle.trees.specs.declared.op.Op.{Op}
 use Rattle.trees.specs.Operators.{kids_of}
 use Rattle.trees.specs.Trees.{Subst, Var, count_of}
 use Rattle.trees.specs.Judgements.{Nil}
 use Rattle.trees.specs.declared.kind.PartKind.{PartKind}
 use Rattle.trees.specs.declared.kind.PartKind.TheVariants as part
-use Rattle.trees.specs.Things.{Thing, ATree, ASubst, AContext, Meanings, both, meanings, made, instance_of, with_variable, with_a_name, with_a_face}
+use Rattle.trees.specs.Things.{Thing, ATree, ASubst, AContext, Meanings, both, meanings, made}
+use Rattle.trees.specs.Things.{instance_of, with_variable, with_a_name, with_a_face}
 use Rattle.rows.specs.Views.{sub_meaning}
 use Rattle.rows.specs.Tables.{built}
 use Rattle.rows.specs.Counts.{is_count_held}
@@ -26,7 +28,8 @@ held_sub_meaning f (Some s) = sub_meaning f s.row
 -- what a row means, over these kids and substitutions
 abbrev pub held_meaning : Meanings → List ℕ → List HeldSub → Held → Option Thing
 held_meaning f kids subs (held.Var k) = Some (ATree (Var k))
-held_meaning f kids subs (held.Make op at) = option_and_then (made op) (meanings f (kids_at kids (kids_of op) at))
+held_meaning f kids subs (held.Make op at) =
+    option_and_then (made op) (meanings f (kids_at kids (kids_of op) at))
 held_meaning f kids subs (held.Instance t d) = both instance_of (f t.0) (f d.0)
 held_meaning f kids subs (held.Subst at) = held_sub_meaning f (slice_get subs at)
 held_meaning f kids subs held.CtxNil = Some (AContext Nil)
@@ -81,13 +84,17 @@ is_alone (held.Make op at) = false
 is_alone (held.Subst at) = false
 is_alone _ = true
 
--- Each row means something, its kids and its substitution follow those of earlier rows, and sizes are held right.
+-- Each row means something, its kids and its substitution follow those of earlier rows, and sizes
+-- are held right.
 pub record AreHeld (rows : List Held) (kids : List ℕ) (subs : List HeldSub) : Type 0 where
   pub mean : (k : ℕ) (r : Held) → slice_get rows k ≡ Some r
       → IsSome (held_meaning (slice_get (take k (things_of rows kids subs))) kids subs r)
   pub kids_full : length kids ≡ kids_held rows
   pub subs_full : length subs ≡ subs_held rows
-  pub kids_placed : (k : ℕ) (op : Op) (at : ℕ) → slice_get rows k ≡ Some (held.Make op at) → at ≡ kids_held (take k rows)
-  pub subs_placed : (k at : ℕ) → slice_get rows k ≡ Some (held.Subst at) → at ≡ subs_held (take k rows)
-  pub sized : (k at : ℕ) (s : HeldSub) (d : Subst) → slice_get rows k ≡ Some (held.Subst at) → slice_get subs at ≡ Some s
+  pub kids_placed : (k : ℕ) (op : Op) (at : ℕ) →
+      slice_get rows k ≡ Some (held.Make op at) → at ≡ kids_held (take k rows)
+  pub subs_placed : (k at : ℕ) → slice_get rows k ≡ Some (held.Subst at) →
+      at ≡ subs_held (take k rows)
+  pub sized : (k at : ℕ) (s : HeldSub) (d : Subst) →
+      slice_get rows k ≡ Some (held.Subst at) → slice_get subs at ≡ Some s
       → slice_get (things_of rows kids subs) k ≡ Some (ASubst d) → IsHeldSize k d s.size

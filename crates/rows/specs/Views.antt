@@ -1,10 +1,13 @@
 -- What a row means that names others, where these mean something.
-use Rattle.std.specs.Prelude.{◌≡◌, ◌≤◌, ◌^◌, ℕ, List, [], ◌∷◌, Option, Some, None, IsSome, option_and_then}
+use Rattle.std.specs.Prelude.{◌≡◌, ◌≤◌, ◌^◌, ℕ, List, [], ◌∷◌, Option}
+use Rattle.std.specs.Prelude.{Some, None, IsSome, option_and_then}
 use Rattle.trees.specs.declared.kind.PartKind.{PartKind}
 use Rattle.trees.specs.declared.kind.PartKind.TheVariants as part
 use Rattle.trees.specs.Trees.{Tree, Subst, Var, shift_by, count_of, greatest_shift}
 use Rattle.trees.specs.Judgements.{Context, Nil}
-use Rattle.trees.specs.Things.{Thing, ATree, ASubst, AContext, Meanings, both, meanings, made, instance_of, pushed_on, then_of, with_variable, with_a_name, with_a_face}
+use Rattle.trees.specs.Things.{Thing, ATree, ASubst, AContext, Meanings, both, meanings, made}
+use Rattle.trees.specs.Things.{instance_of, pushed_on, then_of, with_variable, with_a_name}
+use Rattle.trees.specs.Things.{with_a_face}
 use Rattle.rows.specs.declared.views.TermRow.{TermRow}
 use Rattle.rows.specs.declared.views.TermRow.TheVariants as term
 use Rattle.rows.specs.declared.views.SubRow.{SubRow}

@@ -4,7 +4,8 @@ ghost use Rattle.std.specs.Prelude.{◌≡◌, ◌↔◌, ◌≤◌, IsSome, IsT
 ghost use Rattle.std.specs.List.{All};
 ghost use Rattle.trees.specs.Trees.{greatest_shift};
 ghost use Rattle.trees.specs.Things.{Kept, made, meanings};
-ghost use Rattle.rows.specs.Views.{IsTree, IsSubst, IsContext, IsFit, IsSubFit, ShiftAtMost, term_meaning, ctx_meaning, row_meaning};
+ghost use Rattle.rows.specs.Views.{IsTree, IsSubst, IsContext, IsFit, IsSubFit, ShiftAtMost};
+ghost use Rattle.rows.specs.Views.{term_meaning, ctx_meaning, row_meaning};
 ghost use Rattle.rows.specs.Shown.{store_means};
 
 use crate::store::RowStore;
@@ -13,12 +14,13 @@ use crate::views::{CtxId, CtxRow, Row, SubId, SubRow, TermId, TermRow};
 use std::alloc::AllocError;
 use trees::{Op, PartKind, kid_count};
 
-/// The greatest shift of a substitution that is made, and that `then` takes: 4,611,686,018,427,387,904.
+/// The greatest shift of a substitution that is made, and that `then` takes:
+/// 4,611,686,018,427,387,904.
 pub const GREATEST_SHIFT: u64 = 1 << 62;
 
 impl RowStore {
-    /// Whether a row may be made: the rows that it names mean things of the right kinds, an operator has as many kids as it takes,
-    /// and no shift is too great.
+    /// Whether a row may be made: the rows that it names mean things of the right kinds, an
+    /// operator has as many kids as it takes, and no shift is too great.
     pub fn fits(&self, row: &Row<'_>) -> bool
         ensures { IsTrue result ↔ IsFit (store_means self.now) row.now }
     {
@@ -61,7 +63,8 @@ impl RowStore {
     }
 
     fn fits_make(&self, op: Op, kids: &[u64]) -> bool
-        ensures { IsTrue result ↔ IsSome (option_and_then (made op) (meanings (store_means self.now) kids.now)) }
+        ensures { IsTrue result ↔
+            IsSome (option_and_then (made op) (meanings (store_means self.now) kids.now)) }
     {
         kids.len() == kid_count(op) as usize && self.all_terms(kids)
     }

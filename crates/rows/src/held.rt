@@ -37,7 +37,8 @@ pub struct HeldSub {
     pub size: HeldSize,
 }
 
-/// How many trees a substitution pushes, counted up to a bound that is far above 2^64, and its shift.
+/// How many trees a substitution pushes, counted up to a bound that is far above 2^64, and its
+/// shift.
 #[derive(Clone, Copy, Debug)]
 pub struct HeldSize {
     pub pushed: u128,
@@ -74,7 +75,8 @@ impl HeldSize {
     /// That of this substitution and then the second, whose first trees the shift of this drops.
     pub fn then(self, second: HeldSize) -> HeldSize
         requires { self.shift + second.shift < 2 ^ 64 }
-        ensures pushed { result.pushed ≡ min (self.pushed + (second.pushed - self.shift)) most_counted }
+        ensures pushed { result.pushed ≡
+            min (self.pushed + (second.pushed - self.shift)) most_counted }
         ensures shift { result.shift ≡ second.shift + (self.shift - second.pushed) }
     {
         let dropped = u128::from(self.shift);

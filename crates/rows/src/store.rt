@@ -8,8 +8,9 @@ use crate::views::{CtxId, CtxRow, SubId, SubRow, SubSize, TermId, TermRow};
 use std::alloc::{AllocError, Global};
 use trees::{Op, PartKind, kid_count};
 
-/// Rows in memory, named by their numbers from 0. Contracts see the list of what they mean. A row takes 24 bytes, each kid of an
-/// operator 8 more, and a substitution 64 more. After out of memory the rows are as before.
+/// Rows in memory, named by their numbers from 0. Contracts see the list of what they mean. A row
+/// takes 24 bytes, each kid of an operator 8 more, and a substitution 64 more. After out of memory
+/// the rows are as before.
 #[derive(Drop)]
 pub struct RowStore {
     rows: Vec<Held>,
@@ -19,7 +20,9 @@ pub struct RowStore {
 }
 
 impl RowStore {
-    ghost use Rattle.std.specs.Prelude.{◌≡◌, ◌↔◌, ◌<◌, ◌-◌, [], length, take, option_map, option_and_then, slice_get, IfOk, OnErr, IsSome, IsTrue, Some};
+    ghost use Rattle.std.specs.Prelude.{◌≡◌, ◌↔◌, ◌<◌, ◌-◌, [], length, take, option_map};
+    ghost use Rattle.std.specs.Prelude.{option_and_then, slice_get, IfOk, OnErr, IsSome, IsTrue};
+    ghost use Rattle.std.specs.Prelude.{Some};
     ghost use Rattle.std.specs.List.{All};
     ghost use Rattle.trees.specs.Things.{Kept, kind_of, made, meanings};
     ghost use Rattle.rows.specs.Views.{IsSubst, IsOfKind, sub_meaning, sub_names};
@@ -92,7 +95,8 @@ impl RowStore {
     /// The substitution of a row.
     fn sub(&self, id: SubId) -> HeldSub
         requires { IsSubst (store_means self.now id.0) }
-        ensures meaning { store_means self.now id.0 ≡ sub_meaning (store_means self.now) result.row }
+        ensures meaning { store_means self.now id.0 ≡
+            sub_meaning (store_means self.now) result.row }
         ensures earlier { All (λ k. k < id.0) (sub_names result.row) }
         ensures size { IsSizeAt id.0 (store_means self.now id.0) result.size }
     {
@@ -107,7 +111,8 @@ impl RowStore {
         requires alone { IsTrue (is_alone row) }
         requires means { IsSome (held_meaning (store_means self.old) [] [] row) }
         ensures kept { Kept (store_means self.old) (store_means self.new) }
-        ensures meaning { IfOk result (λ at. store_means self.new at ≡ held_meaning (store_means self.old) [] [] row) }
+        ensures meaning { IfOk result
+            (λ at. store_means self.new at ≡ held_meaning (store_means self.old) [] [] row) }
         ensures err { OnErr result (things self.new ≡ things self.old) }
     {
         let at = self.rows.len() as u64;
@@ -118,9 +123,11 @@ impl RowStore {
     /// A new row of a substitution of this size.
     fn add_sub(&mut self, row: SubRow, size: HeldSize) -> Result<u64, AllocError>
         requires means { IsSome (sub_meaning (store_means self.old) row) }
-        requires size { IsSizeAt (length (things self.old)) (sub_meaning (store_means self.old) row) size }
+        requires size { IsSizeAt (length (things self.old))
+            (sub_meaning (store_means self.old) row) size }
         ensures kept { Kept (store_means self.old) (store_means self.new) }
-        ensures meaning { IfOk result (λ at. store_means self.new at ≡ sub_meaning (store_means self.old) row) }
+        ensures meaning { IfOk result
+            (λ at. store_means self.new at ≡ sub_meaning (store_means self.old) row) }
         ensures err { OnErr result (things self.new ≡ things self.old) }
     {
         let number = self.rows.len() as u64;

@@ -96,7 +96,8 @@ fn substitutions_know_their_sizes(rt: HostRuntime) -> Result<(), Fail> {
         shift(3),
         push(1, 0),
         push(2, 0),
-        // two trees and a shift by 3, of which the first two go and one more is raised over; and the other way round
+        // two trees and a shift by 3, of which the first two go and one more is raised over; and
+        // the other way round
         then(1, 3),
         then(3, 1),
         then(3, 3),

@@ -1,11 +1,15 @@
 //! What makes rows and what reads them.
 
-ghost use Rattle.std.specs.Prelude.{◌≡◌, ◌≤◌, ◌<◌, ◌+◌, ℕ, Some, IfOk, IsOk, IsSome, option_and_then};
+ghost use Rattle.std.specs.Prelude.{◌≡◌, ◌≤◌, ◌<◌, ◌+◌, ℕ, Some, IfOk};
+ghost use Rattle.std.specs.Prelude.{IsOk, IsSome, option_and_then};
 ghost use Rattle.std.specs.List.{All};
 ghost use Rattle.trees.specs.Trees.{Var, shift_by, greatest_shift};
 ghost use Rattle.trees.specs.Judgements.{Nil};
-ghost use Rattle.trees.specs.Things.{Meanings, Kept, ATree, ASubst, AContext, meanings, both, made, instance_of, pushed_on, then_of, with_variable, with_a_name, with_a_face};
-ghost use Rattle.rows.specs.Views.{IsTree, IsSubst, IsContext, IsSizeOf, ShiftAtMost, term_meaning, sub_meaning, ctx_meaning, term_names, sub_names, ctx_names};
+ghost use Rattle.trees.specs.Things.{Meanings, Kept, ATree, ASubst, AContext, meanings, both, made};
+ghost use Rattle.trees.specs.Things.{instance_of, pushed_on, then_of, with_variable, with_a_name};
+ghost use Rattle.trees.specs.Things.{with_a_face};
+ghost use Rattle.rows.specs.Views.{IsTree, IsSubst, IsContext, IsSizeOf, ShiftAtMost, term_meaning};
+ghost use Rattle.rows.specs.Views.{sub_meaning, ctx_meaning, term_names, sub_names, ctx_names};
 
 use crate::views::{CtxId, CtxRow, SubId, SubRow, SubSize, TermId, TermRow};
 use std::alloc::AllocError;
@@ -17,8 +21,8 @@ pub trait Rows {
     ghost means: { Self → Meanings };
 }
 
-/// Makes rows, which it names by their numbers. A call may answer with a row that was made before. It adds one row at most, and
-/// what rows meant they go on to mean.
+/// Makes rows, which it names by their numbers. A call may answer with a row that was made before.
+/// It adds one row at most, and what rows meant they go on to mean.
 pub trait Maker: Rows {
     /// How many rows can still be made without running out of memory.
     ghost spare: { Self → ℕ };
@@ -54,7 +58,8 @@ pub trait Maker: Rows {
         ensures covered { 0 < spare self.old → IsOk result }
         ensures spends { spare self.old ≤ spare self.new + 1 }
         ensures kept { Kept (Self.means self.old) (Self.means self.new) }
-        ensures meaning { IfOk result (λ row. Self.means self.new row ≡ Some (ASubst (shift_by by))) };
+        ensures meaning { IfOk result
+            (λ row. Self.means self.new row ≡ Some (ASubst (shift_by by))) };
 
     /// A substitution with a tree pushed on it.
     fn push(&mut self, sub: u64, term: u64) -> Result<u64, AllocError>
@@ -67,7 +72,8 @@ pub trait Maker: Rows {
 
     /// The first substitution, then the second.
     fn then(&mut self, first: u64, second: u64) -> Result<u64, AllocError>
-        requires kinds { IsSome (both then_of (Self.means self.old first) (Self.means self.old second)) }
+        requires kinds { IsSome
+            (both then_of (Self.means self.old first) (Self.means self.old second)) }
         requires first { ShiftAtMost greatest_shift (Self.means self.old first) }
         requires second { ShiftAtMost greatest_shift (Self.means self.old second) }
         ensures covered { 0 < spare self.old → IsOk result }
@@ -98,7 +104,8 @@ pub trait Maker: Rows {
         ensures covered { 0 < spare self.old → IsOk result }
         ensures spends { spare self.old ≤ spare self.new + 1 }
         ensures kept { Kept (Self.means self.old) (Self.means self.new) }
-        ensures meaning { IfOk result (λ row. Self.means self.new row ≡ option_and_then with_a_name (Self.means self.old ctx)) };
+        ensures meaning { IfOk result (λ row.
+            Self.means self.new row ≡ option_and_then with_a_name (Self.means self.old ctx)) };
 
     /// A context with a face.
     fn ctx_face(&mut self, ctx: u64, face: u64) -> Result<u64, AllocError>

@@ -1,5 +1,6 @@
 -- What side tests mean, and what a rule at given parts wants, asks and gives.
-use Rattle.std.specs.Prelude.{ℕ, List, [], ◌∷◌, Option, Some, None, slice_get, length, option_and_then}
+use Rattle.std.specs.Prelude.{ℕ, List, [], ◌∷◌, Option, Some, None}
+use Rattle.std.specs.Prelude.{slice_get, length, option_and_then}
 use Rattle.theory.specs.declared.rule.RuleName.{RuleName}
 use Rattle.trees.specs.Judgements.{Judgement, SideCondition, TreeRule}
 use Rattle.trees.specs.Things.{Thing, Meanings, meanings}

@@ -7,8 +7,10 @@ use Rattle.trees.specs.Things.{Thing}
 use Rattle.rules.specs.Rules.{rule_at}
 use Rattle.rules.specs.Sides.{SideHolds}
 
--- The table's rule at these parts wants these premises in order, has side conditions that hold, and gives J.
-pub record IsInstance (name : RuleName) (parts : List Thing) (premises : List Judgement) (J : Judgement) : Type 0 where
+-- The table's rule at these parts wants these premises in order, has side conditions that hold, and
+-- gives J.
+pub record IsInstance (name : RuleName) (parts : List Thing)
+    (premises : List Judgement) (J : Judgement) : Type 0 where
   pub rule : TreeRule
   pub is : rule_at name parts ≡ Some rule
   pub wants : premises ≡ rule.wants

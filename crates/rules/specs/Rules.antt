@@ -3,7 +3,8 @@ use Rattle.std.specs.Prelude.{List, [], ◌∷◌, Option, Some, None}
 use Rattle.trees.specs.declared.kind.PartKind.{PartKind}
 use Rattle.trees.specs.declared.kind.PartKind.TheVariants as part
 use Rattle.theory.specs.declared.rule.RuleName.{RuleName}
-use Rattle.theory.specs.declared.rule.RuleName.TheVariants.{Contexts, Substitution, Universe, Pi, Naturals}
+use Rattle.theory.specs.declared.rule.RuleName.TheVariants.{Contexts, Substitution, Universe}
+use Rattle.theory.specs.declared.rule.RuleName.TheVariants.{Pi, Naturals}
 use Rattle.theory.specs.declared.rule.ContextRule.TheVariants.{CtxNil}
 use Rattle.theory.specs.declared.rule.UniverseRule.TheVariants.{TyU}
 use Rattle.theory.specs.declared.rule.SubstitutionRule.TheVariants.{TySub}
@@ -31,18 +32,22 @@ unfoldable pub rule_at : RuleName → List Thing → Option TreeRule
 rule_at name parts = over_parts (kinds_of name) (tree_rule name) parts
 
 -- P holds of all parts of these kinds and of the rule at them
-abbrev pub AtAllParts : (kinds : List PartKind) → Over trees kinds → (List Thing → TreeRule → Type 0) → Type 0
+abbrev pub AtAllParts : (kinds : List PartKind) →
+    Over trees kinds → (List Thing → TreeRule → Type 0) → Type 0
 AtAllParts [] r P = P [] r
-AtAllParts (part.Context ∷ kinds) r P = (G : Context) → AtAllParts kinds (r G) (λ xs y. P (AContext G ∷ xs) y)
-AtAllParts (part.Subst ∷ kinds) r P = (d : Subst) → AtAllParts kinds (r d) (λ xs y. P (ASubst d ∷ xs) y)
-AtAllParts (part.Term ∷ kinds) r P = (t : Tree) → AtAllParts kinds (r t) (λ xs y. P (ATree t ∷ xs) y)
+AtAllParts (part.Context ∷ kinds) r P =
+    (G : Context) → AtAllParts kinds (r G) (λ xs y. P (AContext G ∷ xs) y)
+AtAllParts (part.Subst ∷ kinds) r P =
+    (d : Subst) → AtAllParts kinds (r d) (λ xs y. P (ASubst d ∷ xs) y)
+AtAllParts (part.Term ∷ kinds) r P =
+    (t : Tree) → AtAllParts kinds (r t) (λ xs y. P (ATree t ∷ xs) y)
 
 -- P holds of all parts of a rule's kinds and of the rule at them
 abbrev pub AtAll : RuleName → (List Thing → TreeRule → Type 0) → Type 0
 AtAll name = AtAllParts (kinds_of name) (tree_rule name)
 
--- The same by cases, so that it computes as soon as the rule is known: the first line of a family makes the second run
--- through the others.
+-- The same by cases, so that it computes as soon as the rule is known: the first line of a family
+-- makes the second run through the others.
 abbrev pub AtAllCases : RuleName → (List Thing → TreeRule → Type 0) → Type 0
 AtAllCases (Contexts CtxNil) P = AtAll (Contexts CtxNil) P
 AtAllCases (Contexts name) P = AtAll (Contexts name) P

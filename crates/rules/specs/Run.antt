@@ -1,11 +1,13 @@
 -- What instructions make of a rule's parts: prefix notation, read from its end.
-use Rattle.std.specs.Prelude.{ℕ, zero, suc, ◌+◌, nat_le, cond, Bool, true, false, List, [], ◌∷◌, Option, Some, None, slice_get, drop, map, option_and_then}
+use Rattle.std.specs.Prelude.{ℕ, zero, suc, ◌+◌, nat_le, cond, Bool, true, false, List, [], ◌∷◌}
+use Rattle.std.specs.Prelude.{Option, Some, None, slice_get, drop, map, option_and_then}
 use Rattle.std.proofs.Common.{Bor}
 use Rattle.trees.specs.declared.op.Op.{Op}
 use Rattle.trees.specs.Operators.{kids_of}
 use Rattle.trees.specs.Trees.{Var, shift_by, greatest_shift}
 use Rattle.trees.specs.Judgements.{Nil}
-use Rattle.trees.specs.Things.{Thing, ATree, ASubst, AContext, both, consed, made, instance_of, pushed_on, then_of, with_variable, with_a_name, with_a_face}
+use Rattle.trees.specs.Things.{Thing, ATree, ASubst, AContext, both, consed, made, instance_of}
+use Rattle.trees.specs.Things.{pushed_on, then_of, with_variable, with_a_name, with_a_face}
 use Rattle.rules.specs.declared.instruction.Instruction.{Instruction}
 use Rattle.rules.specs.declared.instruction.Instruction.TheVariants as make
 
@@ -21,7 +23,8 @@ exactly (suc n) (x ∷ xs) = option_and_then (consed x) (exactly n xs)
 
 -- the operator over the trees on top of the stack, in their place
 abbrev pub make_on : Op → List Thing → Option (List Thing)
-make_on op stack = option_and_then (λ x. Some (x ∷ drop (kids_of op) stack)) (option_and_then (made op) (exactly (kids_of op) stack))
+make_on op stack = option_and_then (λ x. Some (x ∷ drop (kids_of op) stack))
+    (option_and_then (made op) (exactly (kids_of op) stack))
 
 -- what comes of the first thing, or of the first two, in their place
 abbrev pub one_on : (Thing → Option Thing) → List Thing → Option (List Thing)

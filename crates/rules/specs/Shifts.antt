@@ -20,5 +20,6 @@ ShiftsFit (Some parts) = All ShiftFits parts
 
 -- what `then` takes off the stack
 abbrev pub ThenFits : Meanings → Instruction → List ℕ → Type 0
-ThenFits f make.Then (first ∷ second ∷ stack) = ShiftAtMost greatest_shift (f first) × ShiftAtMost greatest_shift (f second)
+ThenFits f make.Then (first ∷ second ∷ stack) =
+    ShiftAtMost greatest_shift (f first) × ShiftAtMost greatest_shift (f second)
 ThenFits f _ _ = Unit {0}

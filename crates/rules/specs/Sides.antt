@@ -1,10 +1,13 @@
--- Side conditions: formulas and faces over the names of a context, faces that hold, and formulas of one value.
-use Rattle.std.specs.Prelude.{◌≡◌, ◌⊎◌, ℕ, zero, suc, ◌∷◌, drop, Bool, true, false, ◌&&◌, ◌||◌, IsTrue}
+-- Side conditions: formulas and faces over the names of a context, faces that hold, and formulas of
+-- one value.
+use Rattle.std.specs.Prelude.{◌≡◌, ◌⊎◌, ℕ, zero, suc, ◌∷◌, drop, Bool}
+use Rattle.std.specs.Prelude.{true, false, ◌&&◌, ◌||◌, IsTrue}
 use Rattle.trees.specs.declared.op.Op.TheVariants as op
 use Rattle.trees.specs.Trees.{Tree, Trees, Var, Make, NoTrees, More, Subst}
 use Rattle.trees.specs.Language.{IsFormula, IsFace, Holds, Alike}
 use Rattle.trees.specs.Judgements.{Context, Nil, WithVar, WithName, WithFace, SideCondition}
-use Rattle.points.specs.Values.{Value, zero_value, one_value, free_value, negation, meet, join, Valuation, value_at}
+use Rattle.points.specs.Values.{Value, zero_value, one_value, free_value, negation}
+use Rattle.points.specs.Values.{meet, join, Valuation, value_at}
 use Rattle.points.specs.Points.{Point, Free, valuation_of, LiesOver}
 
 -- The index is that of a name. Variables and names take an index, faces none.
@@ -61,7 +64,8 @@ is_true x _ = false
 abbrev pub IsTrueIn : Context → Point → Tree → Type 0
 IsTrueIn G x p = IsTrue (is_face G p) × IsTrue (is_true x p)
 
--- all faces of G are true at the point, which gives each index of G its coordinate, the innermost first
+-- all faces of G are true at the point, which gives each index of G its coordinate, the innermost
+-- first
 abbrev pub Satisfies : Context → Point → Type 0
 Satisfies Nil x = Unit {0}
 Satisfies (WithVar G A) x = Satisfies G (drop 1 x)

@@ -1,5 +1,5 @@
--- The rules: what each wants of its premises, its side conditions, and what it gives. Above each stands what it says:
--- its name, its parts in order, its premises and its conclusion.
+-- The rules: what each wants of its premises, its side conditions, and what it gives. Above each
+-- stands what it says: its name, its parts in order, its premises and its conclusion.
 use Rattle.std.specs.Prelude.{List, [], ◌∷◌}
 use Rattle.trees.specs.declared.op.Op.TheVariants as op
 use Rattle.trees.specs.declared.kind.PartKind.{PartKind}
@@ -15,7 +15,8 @@ use Rattle.theory.specs.declared.rule.PiRule.TheVariants.{PiTy, PiU, Lam, App}
 use Rattle.theory.specs.declared.rule.NatRule.{NatRule}
 use Rattle.theory.specs.declared.rule.NatRule.TheVariants.{NatU, Zero, Suc}
 use Rattle.theory.specs.declared.rule.RuleName.{RuleName}
-use Rattle.theory.specs.declared.rule.RuleName.TheVariants.{Contexts, Substitution, Universe, Pi, Naturals}
+use Rattle.theory.specs.declared.rule.RuleName.TheVariants.{Contexts, Substitution, Universe}
+use Rattle.theory.specs.declared.rule.RuleName.TheVariants.{Pi, Naturals}
 use Rattle.trees.specs.Language.{Language, Rule, Ctx, Ty, Tm, Sb}
 use Rattle.theory.specs.RuleNames.{kinds_of}
 
@@ -74,7 +75,8 @@ module _ (L : Language) where
   -- ctx.nil | | | ctx []
   context_rule CtxNil = record { wants = []; sides = []; gives = Ctx nil }
   -- ctx.var | G A | G >> A | ctx G.A
-  context_rule CtxVar = λ G A. record { wants = Ty G A ∷ []; sides = []; gives = Ctx (with_var G A) }
+  context_rule CtxVar =
+      λ G A. record { wants = Ty G A ∷ []; sides = []; gives = Ctx (with_var G A) }
   -- sub.id | G | ctx G | id : G to G
   context_rule SubId = λ G. record { wants = Ctx G ∷ []; sides = []; gives = Sb G id G }
   -- sub.wk | H d G A | d : H to G; H >> A | d then up : H.A to G
@@ -94,7 +96,8 @@ module _ (L : Language) where
 
   abbrev pub substitution_rule : (name : SubstitutionRule) → Over (kinds_of (Substitution name))
   -- ty.sub | H d G A | d : H to G; G >> A | H >> A[d]
-  substitution_rule TySub = λ H d G A. record { wants = Sb H d G ∷ Ty G A ∷ []; sides = []; gives = Ty H (apply A d) }
+  substitution_rule TySub =
+      λ H d G A. record { wants = Sb H d G ∷ Ty G A ∷ []; sides = []; gives = Ty H (apply A d) }
   -- tm.sub | H d G a A | d : H to G; G >> a : A | H >> a[d] : A[d]
   substitution_rule TmSub = λ H d G a A. record {
     wants = Sb H d G ∷ Tm G a A ∷ [];
@@ -102,7 +105,8 @@ module _ (L : Language) where
     gives = Tm H (apply a d) (apply A d);
   }
   -- tm.var | G A | G >> A | G.A >> var 0 : A+
-  substitution_rule TmVar = λ G A. record { wants = Ty G A ∷ []; sides = []; gives = Tm (with_var G A) (var 0) (weakened A) }
+  substitution_rule TmVar = λ G A.
+      record { wants = Ty G A ∷ []; sides = []; gives = Tm (with_var G A) (var 0) (weakened A) }
 
   -- the universe
 
@@ -114,7 +118,8 @@ module _ (L : Language) where
 
   abbrev pub pi_rule : (name : PiRule) → Over (kinds_of (Pi name))
   -- pi.ty | G A B | G >> A; G.A >> B | G >> pi A B
-  pi_rule PiTy = λ G A B. record { wants = Ty G A ∷ Ty (with_var G A) B ∷ []; sides = []; gives = Ty G (pi A B) }
+  pi_rule PiTy = λ G A B.
+      record { wants = Ty G A ∷ Ty (with_var G A) B ∷ []; sides = []; gives = Ty G (pi A B) }
   -- pi.u | G A B | G >> A : U; G.A >> B : U | G >> pi A B : U
   pi_rule PiU = λ G A B. record {
     wants = Tm G A universe ∷ Tm (with_var G A) B universe ∷ [];

@@ -1,14 +1,17 @@
 //! What a rule wants and gives, as rows.
 
-ghost use Rattle.std.specs.Prelude.{◌≡◌, ◌≤◌, ◌<◌, ◌+◌, IfOk, IfSome, IfNone, IsOk, IsSome, IsTrue, true};
+ghost use Rattle.std.specs.Prelude.{◌≡◌, ◌≤◌, ◌<◌, ◌+◌, IfOk, IfSome, IfNone};
+ghost use Rattle.std.specs.Prelude.{IsOk, IsSome, IsTrue, true};
 ghost use Rattle.std.specs.List.{list_all, list_any};
 ghost use Rattle.theory.specs.RuleNames.{premises_of};
 ghost use Rattle.trees.specs.Things.{Kept, meanings};
 ghost use Rattle.trees.specs.Claimed.{claimed};
 ghost use Rattle.rules.specs.Run.{rows_of_all};
 ghost use Rattle.rules.specs.Shifts.{ShiftsFit};
-ghost use Rattle.rules.specs.Schemas.{judgement_of, condition_of, places_of, test_places, fits, has_then, most_rows};
-ghost use Rattle.rules.specs.Claims.{asked, rule_over, premise_at, side_at, conclusion_of, sides_in};
+ghost use Rattle.rules.specs.Schemas.{judgement_of, condition_of, places_of, test_places};
+ghost use Rattle.rules.specs.Schemas.{fits, has_then, most_rows};
+ghost use Rattle.rules.specs.Claims.{asked, rule_over, premise_at, side_at};
+ghost use Rattle.rules.specs.Claims.{conclusion_of, sides_in};
 
 use crate::machine::rows_of;
 use crate::program::{Program, Test};

@@ -4,8 +4,8 @@
 //! The table itself, which a reader has to believe, is `specs/Table.antt`. The programs of this
 //! crate make the rows of its judgements, and each is proved to say what the table says.
 //!
-//! Where rows 0, 1, 3 and 4 are `[]`, `nat`, `zero` and `suc zero`, the rule `suc` wants `zero : nat`
-//! and gives `suc zero : nat`:
+//! Where rows 0, 1, 3 and 4 are `[]`, `nat`, `zero` and `suc zero`, the rule `suc` wants `zero :
+//! nat` and gives `suc zero : nat`:
 //!
 //! ```text
 //! wanted(maker, suc, &[0, 3], 0) == Ok(Claim::Tm(0, 3, 1))

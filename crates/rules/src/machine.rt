@@ -1,9 +1,11 @@
 //! The machine that runs programs.
 
-ghost use Rattle.std.specs.Prelude.{◌≡◌, ◌≤◌, ◌<◌, ◌+◌, ◌∷◌, length, IfOk, IsOk, IsSome, IsTrue, true};
+ghost use Rattle.std.specs.Prelude.{◌≡◌, ◌≤◌, ◌<◌, ◌+◌, ◌∷◌, length, IfOk};
+ghost use Rattle.std.specs.Prelude.{IsOk, IsSome, IsTrue, true};
 ghost use Rattle.std.specs.List.{list_all, list_any};
 ghost use Rattle.trees.specs.Things.{Kept, meanings};
-ghost use Rattle.rules.specs.Run.{stepped, rows_for, lists_of, thing_of, rows_in, things_of, rows_of_all};
+ghost use Rattle.rules.specs.Run.{stepped, rows_for, lists_of, thing_of};
+ghost use Rattle.rules.specs.Run.{rows_in, things_of, rows_of_all};
 ghost use Rattle.rules.specs.Schemas.{fits, has_then};
 ghost use Rattle.rules.specs.Shifts.{ShiftsFit, ThenFits};
 

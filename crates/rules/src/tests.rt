@@ -176,7 +176,8 @@ fn says(
     wants: &[Claim],
     gives: Claim,
 ) -> Result<(), AllocError>
-    requires parts { IsSome (rule_over rule (meanings (⟦<KnownRows as Rows>⟧.means maker.old) parts.now)) }
+    requires parts { IsSome
+        (rule_over rule (meanings (⟦<KnownRows as Rows>⟧.means maker.old) parts.now)) }
     requires shifts { ShiftsFit (meanings (⟦<KnownRows as Rows>⟧.means maker.old) parts.now) }
 {
     assert_eq!(rt; count_premises(rule) as usize, wants.len(), "at {rule:?}");

@@ -1,5 +1,6 @@
 -- What a command may answer, and what is then printed.
-use Rattle.std.specs.Prelude.{◌≡◌, ◌≢◌, ◌⊎◌, ℕ, List, ◌++◌, None, Some, codes, decimal, string_bytes, Option}
+use Rattle.std.specs.Prelude.{◌≡◌, ◌≢◌, ◌⊎◌, ℕ, List, ◌++◌, None, Some}
+use Rattle.std.specs.Prelude.{codes, decimal, string_bytes, Option}
 use Rattle.edge.specs.Counts.{Rose}
 use Rattle.edge.specs.Files.{Held, HoldsAt}
 use Rattle.edge.specs.Seen.{SeenFiles, SeenSource, SeenSink}
@@ -21,7 +22,8 @@ plain_text (outcome.Judged (No row)) = codes "no: row " ++ (decimal row ++ codes
 plain_text (outcome.MissingFile path) =
     codes "no: MissingFile in " ++ (string_bytes path ++ codes "\n")
 plain_text outcome.ReadFault = codes "fault: ReadFault\n"
-plain_text outcome.Usage = codes "usage: ctt check MODULE [--turns N] [--json] | replay FILE [--of MODULE] | normal MODULE NAME [--turns N] | prompt MODULE [--turns N] | make N\n"
+plain_text outcome.Usage =
+    codes "usage: ctt check MODULE [--turns N] [--json] | replay FILE [--of MODULE] | normal MODULE NAME [--turns N] | prompt MODULE [--turns N] | make N\n"
 
 -- the text that a command prints
 abbrev pub text : Option Command → Outcome → List ℕ
@@ -41,9 +43,9 @@ abbrev pub Printed : List ℕ → Status → SeenSink → SeenSink → Status �
 Printed text whole old new result =
     ((result ≡ whole) × WrittenWhole text old new) ⊎ ((result ≡ status.Fault) × CutOff text old new)
 
--- When a replay of a path may end so. The verdict is that of the bytes that the path holds, where it is told what
--- is held; a path is missing only where the count of misses rose, and then is not held; a read failed only where the
--- count of faults rose.
+-- When a replay of a path may end so. The verdict is that of the bytes that the path holds, where
+-- it is told what is held; a path is missing only where the count of misses rose, and then is not
+-- held; a read failed only where the count of faults rose.
 abbrev pub MayAnswerReplay : List ℕ → SeenFiles → SeenFiles → Outcome → Type 0
 MayAnswerReplay path old new (outcome.Judged verdict) =
     (bytes : List ℕ) × HoldsAt old.held path (Some bytes) × VerdictIs bytes verdict
@@ -105,7 +107,8 @@ MayPrintBefore see (Some (Replay path)) old new = new ≡ old
 MayPrintBefore see None old new = new ≡ old
 
 -- A command ran: how files, inputs and outputs are seen, the command, both worlds, and the status.
-module _ {F I O : Type 0} (files : F → SeenFiles) (input : I → SeenSource) (out : O → SeenSink) where
+module _ {F I O : Type 0} (files : F → SeenFiles)
+    (input : I → SeenSource) (out : O → SeenSink) where
   abbrev pub seen : World F I O → Seen
   seen all = world (files all.files) (input all.input) (out all.out)
 
@@ -118,9 +121,11 @@ module _ {F I O : Type 0} (files : F → SeenFiles) (input : I → SeenSource) (
 -- A law: of one file there is one verdict, yes with these numbers or no at that row.
 abbrev pub OneVerdict : Type 0
 OneVerdict =
-    (bytes : List ℕ) (one other : Verdict) → VerdictIs bytes one → VerdictIs bytes other → one ≡ other
+    (bytes : List ℕ) (one other : Verdict) →
+    VerdictIs bytes one → VerdictIs bytes other → one ≡ other
 
--- A law: where it is told what is held, a replay of a path has one text and one status, but for a fault of reading.
+-- A law: where it is told what is held, a replay of a path has one text and one status, but for a
+-- fault of reading.
 abbrev pub OneAnswer : Type 0
 OneAnswer =
     (path : List ℕ) (held : Held) (old new old' new' : SeenFiles) (one other : Outcome)

@@ -2,8 +2,8 @@
 //!
 //!     let status = run(alloc, &words, &mut files, &mut input, &mut out);
 //!
-//! With the words `replay two.drv`, where `files` hold the thirteen right rows of two roots at `two.drv`, `out` takes
-//! `yes: 13 rows, 2 roots` and the status is `Status::Yes`.
+//! With the words `replay two.drv`, where `files` hold the thirteen right rows of two roots at
+//! `two.drv`, `out` takes `yes: 13 rows, 2 roots` and the status is `Status::Yes`.
 #![tactic(auto)]
 
 mod outcome;

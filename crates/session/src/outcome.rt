@@ -35,8 +35,8 @@ pub(crate) enum Outcome {
     Usage,
 }
 
-const USAGE: &str =
-    "usage: ctt check MODULE [--turns N] [--json] | replay FILE [--of MODULE] | normal MODULE NAME [--turns N] | prompt MODULE [--turns N] | make N\n";
+const USAGE: &str = "usage: ctt check MODULE [--turns N] [--json] | replay FILE [--of MODULE] | \
+     normal MODULE NAME [--turns N] | prompt MODULE [--turns N] | make N\n";
 
 impl Outcome {
     /// The status once the text is printed.
@@ -68,8 +68,8 @@ impl Outcome {
     }
 }
 
-/// A law on the answers, and no code: of one file there is one verdict, and where it is told what is
-/// held, a replay of a path has one answer, but for a fault of reading and out of memory.
+/// A law on the answers, and no code: of one file there is one verdict, and where it is told what
+/// is held, a replay of a path has one answer, but for a fault of reading and out of memory.
 pub fn answers_exclude_each_other()
     ensures verdict { OneVerdict }
     ensures answer { OneAnswer }

@@ -21,8 +21,8 @@ const TWO: [&str; 13] = [
     "r 11",
 ];
 
-const USAGE: &str =
-    "usage: ctt check MODULE [--turns N] [--json] | replay FILE [--of MODULE] | normal MODULE NAME [--turns N] | prompt MODULE [--turns N] | make N\n";
+const USAGE: &str = "usage: ctt check MODULE [--turns N] [--json] | replay FILE [--of MODULE] | \
+     normal MODULE NAME [--turns N] | prompt MODULE [--turns N] | make N\n";
 
 /// The rows as lines.
 fn lines(alloc: Global, rows: &[&str]) -> Result<String, AllocError> {

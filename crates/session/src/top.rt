@@ -1,7 +1,8 @@
 // The top call: it does what the words ask for, and prints how that ended.
 ghost use Rattle.std.specs.Prelude.{◌≡◌, ◌≢◌, [], IfOk};
 ghost use Rattle.edge.specs.Seen.{seen_files, seen_source, seen_sink};
-ghost use Rattle.session.specs.Answers.{plain_text, status_of, MayAnswer, MayStore, Printed, Ran, world};
+ghost use Rattle.session.specs.Answers.{plain_text, status_of, MayAnswer};
+ghost use Rattle.session.specs.Answers.{MayStore, Printed, Ran, world};
 ghost use Rattle.session.specs.Words.{command, texts};
 ghost use Rattle.session.specs.Writes.{Wrote, WroteSome};
 
@@ -72,8 +73,8 @@ fn outcome_of<F: Files>(
     }
 }
 
-/// Does what the words ask for, where they are those after the program's name, and gives the status to
-/// end with. It may be out of memory at any time.
+/// Does what the words ask for, where they are those after the program's name, and gives the status
+/// to end with. It may be out of memory at any time.
 pub fn run<F: Files, I: Source, O: Sink>(
     alloc: Global,
     words: &[String],

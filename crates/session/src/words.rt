@@ -1,7 +1,8 @@
 // The words of the command line.
 ghost use Rattle.std.specs.Prelude.{◌≡◌, ◌++◌};
 ghost use Rattle.std.specs.Option.{option_map, option_and_then};
-ghost use Rattle.session.specs.Words.{command, command_read, texts, positional, is_dashed, only_one};
+ghost use Rattle.session.specs.Words.{command, command_read, texts, positional};
+ghost use Rattle.session.specs.Words.{is_dashed, only_one};
 
 /// What the words ask for.
 #[derive(Clone, Copy)]

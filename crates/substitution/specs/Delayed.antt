@@ -29,7 +29,8 @@ deeper b (i ∷ env) = at_depth (i.depth + b) i.subst ∷ deeper b env
 -- the kids of an operator, from the kid `at` on, each under its binders
 abbrev pub closed_kids : Trees → Op → ℕ → List Delayed → Trees
 closed_kids NoTrees op at env = NoTrees
-closed_kids (More t rest) op at env = More (closed t (deeper (binds_of op at) env)) (closed_kids rest op (suc at) env)
+closed_kids (More t rest) op at env =
+    More (closed t (deeper (binds_of op at) env)) (closed_kids rest op (suc at) env)
 
 -- the k-th of these trees, if there are so many
 abbrev pub kid_at : Trees → ℕ → Option Tree

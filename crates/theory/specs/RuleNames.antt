@@ -1,5 +1,5 @@
--- The signatures of the rules: their names, the kinds of their parts, the number of their premises, and the version from
--- which on each stands in files.
+-- The signatures of the rules: their names, the kinds of their parts, the number of their premises,
+-- and the version from which on each stands in files.
 use Rattle.std.specs.Prelude.{ℕ, List, [], ◌∷◌, codes, ◌≡◌, ◌≤◌}
 use Rattle.trees.specs.declared.kind.PartKind.{PartKind}
 use Rattle.trees.specs.declared.kind.PartKind.TheVariants.{Context, Subst, Term}
@@ -14,7 +14,8 @@ use Rattle.theory.specs.declared.rule.PiRule.TheVariants.{PiTy, PiU, Lam, App}
 use Rattle.theory.specs.declared.rule.NatRule.{NatRule}
 use Rattle.theory.specs.declared.rule.NatRule.TheVariants.{NatU, Zero, Suc}
 use Rattle.theory.specs.declared.rule.RuleName.{RuleName}
-use Rattle.theory.specs.declared.rule.RuleName.TheVariants.{Contexts, Substitution, Universe, Pi, Naturals}
+use Rattle.theory.specs.declared.rule.RuleName.TheVariants.{Contexts, Substitution, Universe}
+use Rattle.theory.specs.declared.rule.RuleName.TheVariants.{Pi, Naturals}
 use Rattle.theory.specs.declared.signatures.Signature.{Signature as Row}
 
 -- the name, the kinds of the parts in their order, the number of premises, and the first version
@@ -37,7 +38,8 @@ context_signature SubVar = signed (codes "sub.var") (Context ∷ Subst ∷ Conte
 
 abbrev pub substitution_signature : SubstitutionRule → Signature
 substitution_signature TySub = signed (codes "ty.sub") (Context ∷ Subst ∷ Context ∷ Term ∷ []) 2
-substitution_signature TmSub = signed (codes "tm.sub") (Context ∷ Subst ∷ Context ∷ Term ∷ Term ∷ []) 2
+substitution_signature TmSub =
+    signed (codes "tm.sub") (Context ∷ Subst ∷ Context ∷ Term ∷ Term ∷ []) 2
 substitution_signature TmVar = signed (codes "tm.var") (Context ∷ Term ∷ []) 1
 
 abbrev pub universe_signature : UniverseRule → Signature
@@ -63,7 +65,8 @@ signature_of (Naturals rule) = nat_signature rule
 
 -- the row in the program is that signature
 abbrev pub Shows : Signature → Row → Type 0
-Shows s row = (row.name.now ≡ s.name) × (row.parts.now ≡ s.parts) × (row.premises ≡ s.premises) × (row.version ≡ s.version)
+Shows s row = (row.name.now ≡ s.name) × (row.parts.now ≡ s.parts) ×
+    (row.premises ≡ s.premises) × (row.version ≡ s.version)
 
 abbrev pub name_of : RuleName → List ℕ
 name_of rule = (signature_of rule).name

@@ -1,7 +1,9 @@
 //! The signatures of the rules, a line each.
 
 ghost use Rattle.std.specs.Prelude.{◌≡◌};
-ghost use Rattle.theory.specs.RuleNames.{signed, context_signature, substitution_signature, universe_signature, pi_signature, nat_signature, signature_of, Shows};
+ghost use Rattle.theory.specs.RuleNames.{signed, context_signature, substitution_signature};
+ghost use Rattle.theory.specs.RuleNames.{universe_signature, pi_signature, nat_signature};
+ghost use Rattle.theory.specs.RuleNames.{signature_of, Shows};
 
 use crate::rule::{ContextRule, NatRule, PiRule, RuleName, SubstitutionRule, UniverseRule};
 use PartKind::{Context, Subst, Term};

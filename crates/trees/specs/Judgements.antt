@@ -2,8 +2,8 @@
 use Rattle.trees.specs.Trees.{Tree, Subst, Var, Make, trees_of, apply, shift_by, push, then}
 use Rattle.trees.specs.Language.{Language, Judged, Tested, RuleOf}
 
--- The innermost entry is last: a variable of a type, a name of the interval, or a face. Variables and names take an
--- index, faces none.
+-- The innermost entry is last: a variable of a type, a name of the interval, or a face. Variables
+-- and names take an index, faces none.
 pub data Context : Type 0 where
   Nil : Context
   WithVar : Context → Tree → Context

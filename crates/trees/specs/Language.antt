@@ -1,5 +1,6 @@
--- What a table of rules speaks: trees, substitutions and contexts, how they are made, and the judgements over them.
--- Trees themselves are one such language; patterns over unknown parts are another.
+-- What a table of rules speaks: trees, substitutions and contexts, how they are made, and the
+-- judgements over them. Trees themselves are one such language; patterns over unknown parts are
+-- another.
 use Rattle.std.specs.Prelude.{ℕ, List}
 use Rattle.trees.specs.declared.op.Op.{Op}
 
@@ -41,7 +42,8 @@ pub data Tested (C T S : Type 0) : Type 0 where
   IsFace : C → T → Tested C T S
   -- p is true at every point at which the faces of G are
   Holds : C → T → Tested C T S
-  -- d and e have one shift, and at each place trees that are equal, or formulas of one value under the faces of H
+  -- d and e have one shift, and at each place trees that are equal, or formulas of one value under
+  -- the faces of H
   Alike : C → S → S → Tested C T S
 
 -- what a rule wants of its premises, its side conditions, and what it gives

@@ -1,7 +1,10 @@
 -- The table of operators: their names, and how many variables or names each of their kids binds.
 use Rattle.std.specs.Prelude.{◌≡◌, ℕ, List, [], ◌∷◌, codes, length, slice_index}
 use Rattle.trees.specs.declared.op.Op.{Op}
-use Rattle.trees.specs.declared.op.Op.TheVariants.{I0, I1, Neg, Min, Max, F0, F1, Eq0, Eq1, Meet, Join, All, U, Pi, Lam, App, Sig, Pair, Fst, Snd, PathP, PLam, PApp, Nat, Zero, Suc, NatRec, Sys, Empty, Comp, GlueType, Glue, Unglue}
+use Rattle.trees.specs.declared.op.Op.TheVariants.{I0, I1, Neg, Min, Max, F0, F1, Eq0, Eq1, Meet}
+use Rattle.trees.specs.declared.op.Op.TheVariants.{Join, All, U, Pi, Lam, App, Sig, Pair, Fst, Snd}
+use Rattle.trees.specs.declared.op.Op.TheVariants.{PathP, PLam, PApp, Nat, Zero, Suc, NatRec, Sys}
+use Rattle.trees.specs.declared.op.Op.TheVariants.{Empty, Comp, GlueType, Glue, Unglue}
 use Rattle.trees.specs.declared.op.OpSignature.{OpSignature}
 
 -- the name, and how many variables or names each kid binds

@@ -1,5 +1,6 @@
 -- What numbered rows mean: each a tree, a substitution or a context, or nothing.
-use Rattle.std.specs.Prelude.{◌≡◌, ◌==◌, ℕ, List, [], ◌∷◌, length, Option, Some, None, option_and_then, cond}
+use Rattle.std.specs.Prelude.{◌≡◌, ◌==◌, ℕ, List, [], ◌∷◌, length, Option}
+use Rattle.std.specs.Prelude.{Some, None, option_and_then, cond}
 use Rattle.trees.specs.declared.op.Op.{Op}
 use Rattle.trees.specs.Operators.{kids_of}
 use Rattle.trees.specs.declared.kind.PartKind.{PartKind}

@@ -22,8 +22,8 @@ abbrev pub count_of : Trees → ℕ
 count_of NoTrees = zero
 count_of (More t rest) = suc (count_of rest)
 
--- A shift with a list of pushed trees, the last pushed first: with a and b pushed in this order on a shift by n it
--- takes 0 to b, 1 to a, and k + 2 to k + n.
+-- A shift with a list of pushed trees, the last pushed first: with a and b pushed in this order on
+-- a shift by n it takes 0 to b, 1 to a, and k + 2 to k + n.
 pub record Subst : Type 0 where
   pub pushed : Trees
   pub shift : ℕ
@@ -98,6 +98,7 @@ id = shift_by 0
 abbrev pub up : Subst
 up = shift_by 1
 
--- the greatest shift of a substitution that is spelt, and that `then` takes: 4,611,686,018,427,387,904
+-- the greatest shift of a substitution that is spelt, and that `then` takes:
+-- 4,611,686,018,427,387,904
 abbrev pub greatest_shift : ℕ
 greatest_shift = 2 ^ 62

@@ -44,8 +44,8 @@ impl Model for MemFiles {
 }
 
 impl MemFiles {
-    /// Files that hold no path. Fetches and stores are numbered together, from 0, and fail where their
-    /// number is listed.
+    /// Files that hold no path. Fetches and stores are numbered together, from 0, and fail where
+    /// their number is listed.
     pub fn new(alloc: Global, failing: &[u64]) -> Result<MemFiles, AllocError>
         ensures { IfOk result (λ files. files ≡ record {
           held = map.empty;

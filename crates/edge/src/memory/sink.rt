@@ -35,7 +35,8 @@ impl Model for MemSink {
 
 impl MemSink {
     /// A sink with room for so many bytes, which are reserved first, so that no write takes memory.
-    /// Writes are numbered from 0, and fail where their number is listed, and where no room is left.
+    /// Writes are numbered from 0, and fail where their number is listed, and where no room is
+    /// left.
     pub fn new(alloc: Global, room: usize, failing: &[u64]) -> Result<MemSink, AllocError>
         ensures { IfOk result (λ sink. sink ≡ record {
           taken = [];
