@@ -1,5 +1,10 @@
 #!/usr/bin/env python3
-"""Times `ctt replay` on files of N rows that derive suc (suc .. zero) : nat."""
+"""Times `ctt replay` on files of about N rows, of four shapes.
+
+`suc`: successors of zero. `lam`: functions of many arguments, each derived under the context of those
+before it. `app`: one function applied to what it gave before, so that each argument's type is an instance.
+`sub`: a term weakened entry by entry along a context.
+"""
 
 import os
 import subprocess
@@ -7,22 +12,103 @@ import sys
 import tempfile
 import time
 
-FRONT = ["rules 1", "c nil", "n ctx.nil", "n nat.u 1 2", "t nat", "n ty.u 1 4 3", "t zero", "n zero 1 2"]
-TREE, NODE = 6, 7  # the rows of zero and of its derivation
+
+class File:
+    """The rows of a derivation file; each call adds one and answers with its number."""
+
+    def __init__(self):
+        self.rows = ["rules 1"]
+        self.nil = self.row("c nil")
+        self.nat = self.row("t nat")
+        self.contexts = [(self.nil, self.row("n ctx.nil"))]
+
+    def row(self, line):
+        self.rows.append(line)
+        return len(self.rows) - 1
+
+    def is_type(self, context, node):
+        """The node that nat is a type in the context of a node."""
+        universe = self.row(f"n nat.u {context} {node}")
+        return self.row(f"n ty.u {context} {self.nat} {universe}")
+
+    def deeper(self):
+        """Adds a variable of type nat to the last context; answers that context and that nat is a type there."""
+        context, node = self.contexts[-1]
+        nat_there = self.is_type(context, node)
+        longer = self.row(f"c var {context} {self.nat}")
+        self.contexts.append((longer, self.row(f"n ctx.var {context} {self.nat} {nat_there}")))
+        return context, nat_there
+
+    def text(self, node):
+        self.row(f"r {node}")
+        return "".join(row + "\n" for row in self.rows), len(self.rows)
 
 
-def derivation(count):
-    """The lines of a file of that many rows, at least nine; the last is a root."""
-    rows = list(FRONT)
-    tree, node = TREE, NODE
-    while len(rows) < count - 1:
-        rows.append(f"n suc 1 {tree} {node}")
-        node = len(rows) - 1
-        if len(rows) < count - 1:
-            rows.append(f"t suc {tree}")
-            tree = len(rows) - 1
-    rows.append(f"r {node}")
-    return "".join(row + "\n" for row in rows)
+def successors(count):
+    file = File()
+    tree = file.row("t zero")
+    node = file.row(f"n zero {file.nil} {file.contexts[0][1]}")
+    for _ in range(count // 2):
+        node = file.row(f"n suc {file.nil} {tree} {node}")
+        tree = file.row(f"t suc {tree}")
+    return file.text(node)
+
+
+def functions(count):
+    file = File()
+    before = [file.deeper() for _ in range(count // 7)]
+    up = file.row("s shift 1")
+    tree = file.row("t var 0")
+    ty = file.row(f"x {file.nat} {up}")
+    node = file.row(f"n tm.var {before[-1][0]} {file.nat} {before[-1][1]}")
+    for context, nat_there in reversed(before):
+        node = file.row(f"n lam {context} {file.nat} {tree} {ty} {nat_there} {node}")
+        tree = file.row(f"t lam {file.nat} {tree}")
+        ty = file.row(f"t pi {file.nat} {ty}")
+    return file.text(node)
+
+
+def applications(count):
+    file = File()
+    nil, nat_there = file.deeper()
+    one, one_node = file.contexts[1]
+    up = file.row("s shift 1")
+    raised = file.row(f"x {file.nat} {up}")
+    variable = file.row("t var 0")
+    is_variable = file.row(f"n tm.var {nil} {file.nat} {nat_there}")
+    is_next = file.row(f"n suc {one} {variable} {is_variable}")
+    after = file.row(f"t suc {variable}")
+    function = file.row(f"t lam {file.nat} {after}")
+    is_function = file.row(f"n lam {nil} {file.nat} {after} {file.nat} {nat_there} {is_next}")
+    tree = file.row("t zero")
+    node = file.row(f"n zero {nil} {file.contexts[0][1]}")
+    for _ in range(count // 2):
+        node = file.row(f"n app {nil} {function} {tree} {file.nat} {file.nat} {is_function} {node}")
+        tree = file.row(f"t app {function} {tree}")
+    return file.text(node)
+
+
+def weakenings(count):
+    file = File()
+    up = file.row("s shift 1")
+    identity = file.row("s shift 0")
+    nil, nat_there = file.deeper()
+    tree = file.row("t var 0")
+    ty = file.row(f"x {file.nat} {up}")
+    node = file.row(f"n tm.var {nil} {file.nat} {nat_there}")
+    for _ in range(count // 9):
+        context, is_context = file.contexts[-1]
+        same = file.row(f"n sub.id {context} {is_context}")
+        _, nat_there = file.deeper()
+        longer = file.contexts[-1][0]
+        weaken = file.row(f"n sub.wk {context} {identity} {context} {file.nat} {same} {nat_there}")
+        node = file.row(f"n tm.sub {longer} {up} {context} {tree} {ty} {weaken} {node}")
+        tree = file.row(f"x {tree} {up}")
+        ty = file.row(f"x {ty} {up}")
+    return file.text(node)
+
+
+SHAPES = {"suc": successors, "lam": functions, "app": applications, "sub": weakenings}
 
 
 def run(program, path):
@@ -39,26 +125,31 @@ def peak(program, path):
     return int(done.stderr) * 1024
 
 
+def measure(program, path, shape, wanted):
+    text, count = SHAPES[shape](wanted)
+    with open(path, "w") as file:
+        file.write(text)
+    runs = [run(program, path) for _ in range(5)]
+    for answer, _ in runs:
+        if answer != f"yes: {count} rows, 1 roots\n":
+            sys.exit(f"{shape}, {count} rows: {answer}")
+    seconds = min(seconds for _, seconds in runs)
+    memory = peak(program, path)
+    print(
+        f"{shape:>5} {count:>9} {len(text):>10} {seconds:>8.3f} {count / seconds:>10.0f} "
+        f"{len(text) / seconds / 1e6:>6.1f} {memory:>12} {memory / count:>6.0f}"
+    )
+
+
 def main():
     program = os.path.abspath(sys.argv[1])
-    counts = [int(word) for word in sys.argv[2:]] or [10_000, 100_000, 1_000_000]
-    print(f"{'rows':>9} {'bytes':>10} {'seconds':>8} {'rows/s':>10} {'MB/s':>6} {'memory':>12} {'a row':>6}")
+    shapes = [word for word in sys.argv[2:] if word in SHAPES] or list(SHAPES)
+    counts = [int(word) for word in sys.argv[2:] if word.isdigit()] or [10_000, 100_000, 1_000_000]
+    print(f"{'shape':>5} {'rows':>9} {'bytes':>10} {'seconds':>8} {'rows/s':>10} {'MB/s':>6} {'memory':>12} {'a row':>6}")
     with tempfile.TemporaryDirectory() as folder:
-        path = os.path.join(folder, "suc.drv")
-        for count in counts:
-            text = derivation(count)
-            with open(path, "w") as file:
-                file.write(text)
-            runs = [run(program, path) for _ in range(5)]
-            for answer, _ in runs:
-                if answer != f"yes: {count} rows, 1 roots\n":
-                    sys.exit(f"{count} rows: {answer}")
-            seconds = min(seconds for _, seconds in runs)
-            memory = peak(program, path)
-            print(
-                f"{count:>9} {len(text):>10} {seconds:>8.3f} {count / seconds:>10.0f} "
-                f"{len(text) / seconds / 1e6:>6.1f} {memory:>12} {memory / count:>6.0f}"
-            )
+        for shape in shapes:
+            for count in counts:
+                measure(program, os.path.join(folder, "bench.drv"), shape, count)
 
 
 if __name__ == "__main__":

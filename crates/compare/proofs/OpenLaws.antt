@@ -1,17 +1,17 @@
 -- The heads of both closures of a pair.
 use Rattle.std.specs.Prelude.{option_and_then}
-use Rattle.std.proofs.Common.{◌≡◌, ℕ, Bool, true, false, not, Bor, List, [], refl, sym, ◌∙◌, ap, arith, Some}
+use Rattle.std.proofs.Common.{◌≡◌, ◌<◌, ℕ, Bool, true, false, not, Bor, List, [], refl, sym, ◌∙◌, ap, arith, Some}
 use Rattle.std.proofs.lemmas.List.{append-nil}
 use Rattle.std.proofs.lemmas.List.Elements.{All-nil}
 use Rattle.trees.specs.declared.op.Op.{Op}
-use Rattle.trees.specs.Trees.{Var}
+use Rattle.trees.specs.Trees.{Tree, Var, Make}
 use Rattle.trees.specs.Things.{ATree, Meanings, made}
 use Rattle.substitution.specs.Delayed.{closed}
 use Rattle.rows.specs.Views.{IsTree}
 use Rattle.rows.specs.Tables.{Grows}
 use Rattle.closures.specs.Environments.{Waiting, listed}
 use Rattle.closures.specs.Closures.{IsClosure, HeadStands, closure_meaning, head_meaning, kid_things, all_there, under, delays}
-use Rattle.compare.specs.Pairs.{Agrees, IsPair, Opens, pair_size, size_of}
+use Rattle.compare.specs.Pairs.{Agrees, IsPair, Opens, pair_size, size, size_of}
 use Rattle.compare.specs.Kids.{kids_meant, KidsStand, KidsOpen}
 use Rattle.closures.specs.declared.environments.Environment.{Environment}
 use Rattle.closures.specs.declared.closure.Closure.{Closure}
@@ -121,6 +121,29 @@ variables-open f old known p pairs k l h e =
       grown = sym (append-nil pairs);
       forth = λ a. All-nil (Agrees f known);
       back = λ smaller. sym h.left_is ∙ ap (λ n. Some (ATree (Var n))) e ∙ h.right_is;
+      less = omega arith;
+    }
+
+-- a tree has an operator or a variable
+size-positive : (t : Tree) → 0 < size t
+size-positive (Var k) = omega arith
+size-positive (Make op kids) = omega arith
+
+-- closures of one environment whose rows mean the same
+pub rows-open : (f : Meanings) (known : List (List Waiting)) (n : ℕ) (p : Pair) (pairs : List Pair) → IsPair f known n p
+    → p.left.environment ≡ p.right.environment → f p.left.row.0 ≡ f p.right.row.0 → Opens f known p pairs pairs
+rows-open f known n p pairs s one same =
+    let tree = closure-tree f known n p.left s.0 in
+    let sized : pair_size f known p ≡ size tree.0 = ap size_of tree.1 in
+    let positive = size-positive tree.0 in
+    let whole : Agrees f known p =
+    ap (λ o. under o (delays f (listed known p.left.environment))) same
+    ∙ ap (λ e. under (f p.right.row.0) (delays f (listed known e))) one in
+    record {
+      more = [];
+      grown = sym (append-nil pairs);
+      forth = λ a. All-nil (Agrees f known);
+      back = λ smaller. whole;
       less = omega arith;
     }
 

@@ -17,6 +17,7 @@ mod comparison;
 mod entries;
 mod kinds;
 mod pairs;
+mod readings;
 mod walk;
 
 pub use comparison::Comparison;

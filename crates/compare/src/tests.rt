@@ -1,6 +1,10 @@
 //! Comparisons of rows in memory: small ones by a table, and shared and deep ones that must not be
 //! written out.
 
+ghost use Rattle.std.specs.Prelude.{IsSome, IsTrue};
+ghost use Rattle.trees.specs.Claimed.{claimed};
+ghost use Rattle.rows.specs.Shown.{store_means};
+
 use crate::Comparison;
 use rows::{CtxId, CtxRow, Row, RowStore, SubId, SubRow, TermId, TermRow};
 use std::alloc::Global;
@@ -193,21 +197,72 @@ fn shared_trees_are_compared_in_the_time_of_what_is_shared(rt: HostRuntime) -> R
     Ok(())
 }
 
+/// Whether the rows of a claim are of the kinds that its form names.
+fn is_judgement(rows: &RowStore, claim: Claim) -> bool
+    ensures { IsTrue result → IsSome (claimed (store_means rows.now) claim) }
+{
+    let is_context = |row| rows.is_of_kind(row, PartKind::Context);
+    let is_tree = |row| rows.is_of_kind(row, PartKind::Term);
+    match claim {
+        Claim::Ctx(g) => is_context(g),
+        Claim::Ty(g, a) => is_context(g) && is_tree(a),
+        Claim::TyEq(g, a, b) => is_context(g) && is_tree(a) && is_tree(b),
+        Claim::Tm(g, t, a) => is_context(g) && is_tree(t) && is_tree(a),
+        Claim::TmEq(g, t, s, a) => is_context(g) && is_tree(t) && is_tree(s) && is_tree(a),
+        Claim::Sb(h, d, g) => is_context(h) && rows.is_of_kind(d, PartKind::Subst) && is_context(g),
+    }
+}
+
 #[test]
 fn claims_are_compared_place_by_place(rt: HostRuntime) -> Result<(), Fail> {
-    // the empty context, zero, and an instance of zero; the variable 0
     let table = [
+        // 0 to 3: the empty context, and one more, twice
         Row::Context(CtxRow::Nil),
+        with_name(0),
+        with_name(0),
+        with_name(1),
+        // 4 to 8: zero, an instance of it, and a variable; a shift and another
         make(Op::Zero, &[]),
         shift(1),
-        instance(1, 2),
+        instance(4, 5),
         var(0),
+        shift(2),
+    ];
+    // 1 and 2 are the same, and so are 4 and 6; in each form each place is another once
+    let cases = [
+        (Claim::Ctx(1), Claim::Ctx(2), true),
+        (Claim::Ctx(1), Claim::Ctx(3), false),
+        (Claim::Ty(1, 4), Claim::Ty(2, 6), true),
+        (Claim::Ty(1, 4), Claim::Ty(3, 6), false),
+        (Claim::Ty(1, 4), Claim::Ty(2, 7), false),
+        (Claim::TyEq(1, 4, 7), Claim::TyEq(2, 6, 7), true),
+        (Claim::TyEq(1, 4, 7), Claim::TyEq(3, 6, 7), false),
+        (Claim::TyEq(1, 4, 7), Claim::TyEq(2, 7, 7), false),
+        (Claim::TyEq(1, 4, 7), Claim::TyEq(2, 6, 6), false),
+        (Claim::Tm(1, 4, 7), Claim::Tm(2, 6, 7), true),
+        (Claim::Tm(1, 4, 7), Claim::Tm(3, 6, 7), false),
+        (Claim::Tm(1, 4, 7), Claim::Tm(2, 7, 7), false),
+        (Claim::Tm(1, 4, 7), Claim::Tm(2, 6, 4), false),
+        (Claim::Tm(1, 4, 7), Claim::TyEq(1, 4, 7), false),
+        (Claim::TmEq(1, 4, 7, 4), Claim::TmEq(2, 6, 7, 6), true),
+        (Claim::TmEq(1, 4, 7, 4), Claim::TmEq(3, 6, 7, 6), false),
+        (Claim::TmEq(1, 4, 7, 4), Claim::TmEq(2, 7, 7, 6), false),
+        (Claim::TmEq(1, 4, 7, 4), Claim::TmEq(2, 6, 4, 6), false),
+        (Claim::TmEq(1, 4, 7, 4), Claim::TmEq(2, 6, 7, 7), false),
+        (Claim::Sb(1, 5, 0), Claim::Sb(2, 5, 0), true),
+        (Claim::Sb(1, 5, 0), Claim::Sb(3, 5, 0), false),
+        (Claim::Sb(1, 5, 0), Claim::Sb(2, 8, 0), false),
+        (Claim::Sb(1, 5, 0), Claim::Sb(2, 5, 1), false),
     ];
     let rows = filled(&rt, rt.alloc(), &table)?;
     let mut comparison = Comparison::new(rt.alloc());
-    assert!(rt; rows.is_of_kind(0, PartKind::Context) && rows.is_of_kind(1, PartKind::Term));
-    assert!(rt; rows.is_of_kind(3, PartKind::Term) && rows.is_of_kind(4, PartKind::Term));
-    assert!(rt; comparison.same_claim(&rows, Claim::Ty(0, 1), Claim::Ty(0, 3))?);
-    assert!(rt; !comparison.same_claim(&rows, Claim::Ty(0, 1), Claim::Ty(0, 4))?);
+    for (left, right, same) in cases {
+        assert!(rt; is_judgement(&rows, left) && is_judgement(&rows, right));
+        assert_eq!(rt;
+            comparison.same_claim(&rows, left, right)?,
+            same,
+            "{left:?}, {right:?}"
+        );
+    }
     Ok(())
 }

@@ -11,6 +11,7 @@ ghost use Rattle.compare.specs.Pairs.{Agrees, IsPair, Opens};
 ghost use Rattle.compare.specs.Kids.{KidsStand, KidsOpen, kids_meant};
 
 use crate::pairs::{Pair, add_pair};
+use crate::readings::read_alike;
 use closures::{Environment, Environments, Head, head_of, kid};
 use indexmap::IndexSet;
 use rows::Reader;
@@ -101,6 +102,33 @@ fn open_pair<R: Reader>(
     }
 }
 
+/// Looks at a pair: closures whose rows read alike, under one environment, agree; others are
+/// opened.
+fn settle_pair<R: Reader>(
+    rows: &R,
+    environments: &mut Environments,
+    pairs: &mut IndexSet<Pair>,
+    pair: Pair,
+) -> Result<bool, AllocError>
+    requires { IsPair (R.means rows.now) (lists environments.old) (deepest - 1) pair }
+    ensures grows { Grows (lists environments.old) (lists environments.new) }
+    ensures yes { let f = R.means rows.now in
+        IfOk result (λ same. same ≡ true →
+        Opens f (lists environments.new) pair pairs.old.keys pairs.new.keys) }
+    ensures stand { let f = R.means rows.now in
+        IfOk result (λ same. same ≡ true → (n : ℕ) → IsPair f (lists environments.old) n pair
+        → All (IsPair f (lists environments.new) (suc n))
+        (drop (length pairs.old.keys) pairs.new.keys)) }
+    ensures no { let f = R.means rows.now in
+        IfOk result (λ same. same ≡ false → Agrees f (lists environments.old) pair → ⊥) }
+{
+    let Pair { left, right } = pair;
+    if left.environment == right.environment && read_alike(rows, left.row, right.row) {
+        return Ok(true);
+    }
+    open_pair(rows, environments, pairs, pair)
+}
+
 /// Whether all pairs agree. Each pair is opened once, and pairs of kids come after the others.
 pub fn all_agree<R: Reader>(
     rows: &R,
@@ -114,7 +142,7 @@ pub fn all_agree<R: Reader>(
     let mut at = 0;
     while at < pairs.len() {
         let pair = pairs[at];
-        if !open_pair(rows, environments, pairs, pair)? {
+        if !settle_pair(rows, environments, pairs, pair)? {
             return Ok(false);
         }
         at += 1;
