@@ -9,7 +9,7 @@ use Rattle.theory.specs.RuleNames.{name_of as rule_name, kinds_of, premises_of}
 use Rattle.trees.specs.declared.op.Op.{Op}
 use Rattle.theory.specs.declared.rule.RuleName.{RuleName}
 use Rattle.deriv_file.specs.declared.row.Row.{Row}
-use Rattle.deriv_file.specs.declared.row.Row.TheVariants.{Header, Var, Make, Instance, Shift, Push, CtxNil, CtxVar, Node, Root}
+use Rattle.deriv_file.specs.declared.row.Row.TheVariants.{Header, Var, Make, Instance, Shift, Push, CtxNil, CtxVar, CtxName, CtxFace, Node, Root}
 use Rattle.trees.specs.declared.op.Op.TheVariants.{I0}
 use Rattle.trees.specs.Trees.{greatest_shift}
 use Rattle.deriv_file.specs.Spelling.{words_of, Earlier, MayStand, newest}

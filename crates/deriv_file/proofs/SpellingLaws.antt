@@ -11,7 +11,7 @@ use Rattle.std.proofs.lemmas.Str.Parse.{digit_at}
 use Rattle.trees.specs.Operators.{name_of as operator_name, kids_of}
 use Rattle.theory.specs.RuleNames.{name_of as rule_name, kinds_of, premises_of}
 use Rattle.deriv_file.specs.declared.row.Row.{Row}
-use Rattle.deriv_file.specs.declared.row.Row.TheVariants.{Header, Var, Make, Instance, Shift, Push, CtxNil, CtxVar, Node, Root}
+use Rattle.deriv_file.specs.declared.row.Row.TheVariants.{Header, Var, Make, Instance, Shift, Push, CtxNil, CtxVar, CtxName, CtxFace, Node, Root}
 use Rattle.deriv_file.specs.Spelling.{words_of, spelled, Earlier, MayStand, Spells}
 use Rattle.deriv_file.specs.Words.{line_words, BeginWith}
 use Rattle.deriv_file.proofs.LineLaws.{first_line}
@@ -66,6 +66,8 @@ row_words version at (Instance term sub) stands = (visible (codes "x") refl, num
 row_words version at (Shift by) stands = (visible (codes "s") refl, (visible (codes "shift") refl, (number_word by (omega arith), tt)))
 row_words version at (Push sub term) stands = (visible (codes "s") refl, (visible (codes "push") refl, number_words at (sub ∷ term ∷ []) stands))
 row_words version at (CtxVar ctx ty) stands = (visible (codes "c") refl, (visible (codes "var") refl, number_words at (ctx ∷ ty ∷ []) stands))
+row_words version at (CtxName ctx) stands = (visible (codes "c") refl, (visible (codes "name") refl, (number_word ctx stands.1, tt)))
+row_words version at (CtxFace ctx face) stands = (visible (codes "c") refl, (visible (codes "face") refl, number_words at (ctx ∷ face ∷ []) stands))
 row_words version at CtxNil stands = (visible (codes "c") refl, (visible (codes "nil") refl, tt))
 row_words version at (Node rule parts premises) stands =
     (visible (codes "n") refl, (rule_visible rule, both_words (map decimal parts) (map decimal premises) (number_words at parts stands.3) (number_words at premises stands.4)))
@@ -160,6 +162,15 @@ same_row version at (CtxVar ctx ty) other stands also e = absurd (false≢true (
 same_row version at (Make op kids) other stands also e =
     let tree = tree_row version at (operator_name op ∷ map decimal kids) (map decimal kids) (operator_name op) op (kids_of op) refl refl refl other e also in
     ap (Make op) (same_ids (map decimal kids) (kids_of op) at kids tree.0 [] [] (all_numbers at (kids_of op) kids stands.1 stands.2) tree.2) ∙ sym tree.1
+same_row version at (CtxName ctx) (CtxName other) stands also e =
+    let word : decimal ctx ≡ decimal other = cc in
+    ap CtxName (decimal_injective ctx other stands.1 also.1 word)
+same_row version at (CtxName ctx) other stands also e = absurd (false≢true (ap (start_with (codes "c" ∷ codes "name" ∷ [])) (sym e)))
+same_row version at (CtxFace ctx face) (CtxFace other more) stands also e =
+    let words : map decimal (ctx ∷ face ∷ []) ≡ map decimal (other ∷ more ∷ []) = cc in
+    let same = same_numbers at (ctx ∷ face ∷ []) (other ∷ more ∷ []) stands also words in
+    cc
+same_row version at (CtxFace ctx face) other stands also e = absurd (false≢true (ap (start_with (codes "c" ∷ codes "face" ∷ [])) (sym e)))
 same_row version at CtxNil CtxNil stands also e = refl
 same_row version at CtxNil other stands also e = absurd (false≢true (ap (start_with (codes "c" ∷ codes "nil" ∷ [])) (sym e)))
 same_row version at (Node rule parts premises) other stands also e =

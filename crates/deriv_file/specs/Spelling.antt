@@ -8,7 +8,8 @@ use Rattle.theory.specs.OperatorNames.{has_operator}
 use Rattle.theory.specs.RuleNames.{name_of as rule_name, kinds_of, premises_of, first_version}
 use Rattle.deriv_file.specs.declared.row.Row.{Row}
 use Rattle.deriv_file.specs.declared.row.Row.TheVariants.{Header, Var, Make, Instance, Shift}
-use Rattle.deriv_file.specs.declared.row.Row.TheVariants.{Push, CtxNil, CtxVar, Node, Root}
+use Rattle.deriv_file.specs.declared.row.Row.TheVariants.{Push, CtxNil, CtxVar, CtxName}
+use Rattle.deriv_file.specs.declared.row.Row.TheVariants.{CtxFace, Node, Root}
 
 -- the words of a row
 abbrev pub words_of : Row → List (List ℕ)
@@ -20,6 +21,8 @@ words_of (Shift by) = codes "s" ∷ codes "shift" ∷ decimal by ∷ []
 words_of (Push sub term) = codes "s" ∷ codes "push" ∷ map decimal (sub ∷ term ∷ [])
 words_of CtxNil = codes "c" ∷ codes "nil" ∷ []
 words_of (CtxVar ctx ty) = codes "c" ∷ codes "var" ∷ map decimal (ctx ∷ ty ∷ [])
+words_of (CtxName ctx) = codes "c" ∷ codes "name" ∷ decimal ctx ∷ []
+words_of (CtxFace ctx face) = codes "c" ∷ codes "face" ∷ map decimal (ctx ∷ face ∷ [])
 words_of (Node rule parts premises) =
     codes "n" ∷ rule_name rule ∷ (map decimal parts ++ map decimal premises)
 words_of (Root node) = codes "r" ∷ decimal node ∷ []
@@ -48,6 +51,8 @@ MayStand version at (Shift by) = by ≤ greatest_shift
 MayStand version at (Push sub term) = All (Earlier at) (sub ∷ term ∷ [])
 MayStand version at CtxNil = Unit {0}
 MayStand version at (CtxVar ctx ty) = All (Earlier at) (ctx ∷ ty ∷ [])
+MayStand version at (CtxName ctx) = Earlier at ctx
+MayStand version at (CtxFace ctx face) = All (Earlier at) (ctx ∷ face ∷ [])
 MayStand version at (Node rule parts premises) =
     (first_version rule ≤ version) × (length parts ≡ length (kinds_of rule)) ×
     (length premises ≡ premises_of rule)

@@ -108,7 +108,7 @@ fn substitution(words: &mut Words<'_>, place: Place) -> Option<Row>
     }
 }
 
-/// The rest of a line `c nil` or `c var C T`.
+/// The rest of a line `c nil`, `c var C T`, `c name C` or `c face C T`.
 fn context(words: &mut Words<'_>, place: Place) -> Option<Row>
     ensures { Reads place.version place.at (codes "c" ∷ words.old) result }
 {
@@ -117,6 +117,11 @@ fn context(words: &mut Words<'_>, place: Place) -> Option<Row>
         b"var" => {
             let (ctx, ty) = words.last_two(place.at)?;
             Some(Row::CtxVar(ctx, ty))
+        }
+        b"name" => Some(Row::CtxName(words.last_below(place.at)?)),
+        b"face" => {
+            let (ctx, face) = words.last_two(place.at)?;
+            Some(Row::CtxFace(ctx, face))
         }
         _ => None,
     }

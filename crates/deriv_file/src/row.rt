@@ -32,6 +32,10 @@ pub enum Row {
     CtxNil,
     /// `c var C T`: a context with a variable of a type.
     CtxVar(u64, u64),
+    /// `c name C`: a context with a name of the interval.
+    CtxName(u64),
+    /// `c face C T`: a context with a face.
+    CtxFace(u64, u64),
     /// `n RULE P1 .. Pa Q1 .. Qb`: an instance of a rule with its parts and its premises.
     Node(RuleName, Ids, Ids),
     /// `r N`: a node is a root.

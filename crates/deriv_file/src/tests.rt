@@ -6,7 +6,7 @@ use std::process::Abort;
 use std::test::Fail;
 
 // A whole file, whose first rows are right: each line with its row.
-const FILE: [(&str, &str); 24] = [
+const FILE: [(&str, &str); 26] = [
     ("rules 1", "Header(1)"),
     ("c nil", "CtxNil"),
     ("n ctx.nil", "Node(Contexts(CtxNil), [], [])"),
@@ -31,6 +31,8 @@ const FILE: [(&str, &str); 24] = [
     ("s push 20 13", "Push(20, 13)"),
     ("c var 1 4", "CtxVar(1, 4)"),
     ("x 22 22", "Instance(22, 22)"),
+    ("c name 1", "CtxName(1)"),
+    ("c face 24 4", "CtxFace(24, 4)"),
 ];
 
 #[test]
@@ -85,8 +87,8 @@ const BAD: [&[u8]; 66] = [
     b"c var 1\n",
     b"c var 1 3\n",
     b"c var 1 2 2\n",
-    b"c name 1\n",
-    b"c face 1 2\n",
+    b"c name 1 2\n",
+    b"c face 1\n",
     b"x\n",
     b"x 1\n",
     b"x 1 3\n",

@@ -40,6 +40,8 @@ fn append_row(row: &Row, into: &mut Vec<u8>) -> Result<(), AllocError>
         Row::Push(sub, term) => append_line(b"s push", b"", &[*sub, *term], &[], into),
         Row::CtxNil => append_line(b"c nil", b"", &[], &[], into),
         Row::CtxVar(ctx, ty) => append_line(b"c var", b"", &[*ctx, *ty], &[], into),
+        Row::CtxName(ctx) => append_line(b"c name", b"", &[*ctx], &[], into),
+        Row::CtxFace(ctx, face) => append_line(b"c face", b"", &[*ctx, *face], &[], into),
         Row::Node(rule, parts, premises) => append_line(
             b"n ",
             rule_name(*rule).as_bytes(),

@@ -8,10 +8,12 @@ use Rattle.trees.specs.Judgements.{Nil, Judgement}
 use Rattle.trees.specs.Trees.{Var as IndexOf, shift_by}
 use Rattle.trees.specs.Things.{Thing, ATree, ASubst, AContext, Meanings, both, meanings}
 use Rattle.trees.specs.Things.{made, instance_of, pushed_on, with_variable}
+use Rattle.trees.specs.Things.{with_a_name, with_a_face}
 use Rattle.rules.specs.Instances.{IsInstance}
 use Rattle.deriv_file.specs.declared.row.Row.{Row}
 use Rattle.deriv_file.specs.declared.row.Row.TheVariants.{Header, Var, Make, Instance, Shift}
-use Rattle.deriv_file.specs.declared.row.Row.TheVariants.{Push, CtxNil, CtxVar, Node, Root}
+use Rattle.deriv_file.specs.declared.row.Row.TheVariants.{Push, CtxNil, CtxVar, CtxName}
+use Rattle.deriv_file.specs.declared.row.Row.TheVariants.{CtxFace, Node, Root}
 use Rattle.deriv_file.specs.Spelling.{newest}
 use Rattle.deriv_file.specs.Lines.{lines, SpellRows}
 use Rattle.derivation.specs.Meanings.{Meaning, Means, Concludes, Nothing, thing_at}
@@ -37,6 +39,8 @@ thing_made f (Shift by) = Some (ASubst (shift_by by))
 thing_made f (Push sub term) = both pushed_on (f sub) (f term)
 thing_made f CtxNil = Some (AContext Nil)
 thing_made f (CtxVar ctx ty) = both with_variable (f ctx) (f ty)
+thing_made f (CtxName ctx) = option_and_then with_a_name (f ctx)
+thing_made f (CtxFace ctx face) = both with_a_face (f ctx) (f face)
 thing_made f (Header version) = None
 thing_made f (Node rule parts premises) = None
 thing_made f (Root node) = None

@@ -6,9 +6,9 @@ use Rattle.trees.specs.declared.op.Op.{Op}
 use Rattle.trees.specs.declared.kind.PartKind.{PartKind}
 use Rattle.trees.specs.Operators.{kids_of}
 use Rattle.trees.specs.Trees.{Tree, Subst, Make as MakeTree, trees_of, greatest_shift, shift_by, push}
-use Rattle.trees.specs.Things.{Thing, ATree, ASubst, AContext, Meanings, Kept, both, made, meanings, only_trees, over_kids, instance_of, pushed_on, with_variable}
+use Rattle.trees.specs.Things.{Thing, ATree, ASubst, AContext, Meanings, Kept, both, made, meanings, only_trees, over_kids, instance_of, pushed_on, with_variable, with_a_name, with_a_face}
 use Rattle.deriv_file.specs.declared.row.Row.{Row}
-use Rattle.deriv_file.specs.declared.row.Row.TheVariants.{Header, Make, Instance, Shift, Push, CtxVar, Node, Root}
+use Rattle.deriv_file.specs.declared.row.Row.TheVariants.{Header, Make, Instance, Shift, Push, CtxVar, CtxName, CtxFace, Node, Root}
 use Rattle.deriv_file.specs.Spelling.{MayStand}
 use Rattle.rules.specs.Shifts.{ShiftFits, ShiftsFit}
 use Rattle.derivation.specs.Meanings.{Meaning, thing_of, thing_at}
@@ -59,6 +59,21 @@ no_variable (Some (AContext G)) (Some (AContext H)) d e = cc
 no_variable (Some (ASubst f)) (Some y) d e = cc
 no_variable (Some (ATree t)) (Some y) d e = cc
 
+no_name : (x : Option Thing) (d : Subst) → option_and_then with_a_name x ≡ Some (ASubst d) → ⊥
+no_name None d e = cc
+no_name (Some (AContext G)) d e = cc
+no_name (Some (ASubst f)) d e = cc
+no_name (Some (ATree t)) d e = cc
+
+no_face : (x y : Option Thing) (d : Subst) → both with_a_face x y ≡ Some (ASubst d) → ⊥
+no_face None y d e = cc
+no_face (Some x) None d e = cc
+no_face (Some (AContext G)) (Some (ATree t)) d e = cc
+no_face (Some (AContext G)) (Some (ASubst f)) d e = cc
+no_face (Some (AContext G)) (Some (AContext H)) d e = cc
+no_face (Some (ASubst f)) (Some y) d e = cc
+no_face (Some (ATree t)) (Some y) d e = cc
+
 no_make : (op : Op) (o : Option (List Thing)) (d : Subst) → option_and_then (made op) o ≡ Some (ASubst d) → ⊥
 no_make op None d e = cc
 no_make op (Some xs) d e = over (only_trees xs) e
@@ -79,6 +94,8 @@ thing_fits version at f (Shift by) d each stands e =
 thing_fits version at f (Push sub term) d each stands e = pushed_fits (f sub) (f term) d (each sub) e
 thing_fits version at f (Instance term sub) d each stands e = absurd (no_instance (f term) (f sub) d e)
 thing_fits version at f (CtxVar ctx ty) d each stands e = absurd (no_variable (f ctx) (f ty) d e)
+thing_fits version at f (CtxName ctx) d each stands e = absurd (no_name (f ctx) d e)
+thing_fits version at f (CtxFace ctx face) d each stands e = absurd (no_face (f ctx) (f face) d e)
 thing_fits version at f (Make op kids) d each stands e = absurd (no_make op (meanings f kids) d e)
 thing_fits version at f row d each stands e = cc
 

@@ -16,7 +16,7 @@ use std::alloc::{AllocError, Global};
 use theory::PartKind;
 
 /// The row of the store for a row of the file, where this is a thing of the kind.
-fn named(store: &RowStore, filed: &FiledRows, number: u64, kind: PartKind) -> Option<u64>
+pub fn named(store: &RowStore, filed: &FiledRows, number: u64, kind: PartKind) -> Option<u64>
     requires filed { AllFiled (things store.now) filed.now }
     requires earlier { number < length filed.now }
     ensures some { IfSome result (NamesOne (things store.now) filed.now number kind) }

@@ -154,8 +154,8 @@ fn one_thing_wrong_is_found(rt: HostRuntime) -> Result<(), Fail> {
     // a row, what stands there instead, and the first bad row
     let cases: [(usize, &str, u64); 77] = [
         (6, "c var 3 1", 6),
-        (6, "c name 1", 6),
-        (6, "c face 1 3", 6),
+        (6, "c name 1", 8),
+        (6, "c face 1 3", 8),
         (7, "n ctx.var 1 3 4", 7),
         (7, "n ctx.var 1 1 5", 7),
         (7, "n ctx.var 3 1 5", 7),

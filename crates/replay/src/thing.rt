@@ -12,7 +12,7 @@ ghost use Rattle.derivation.specs.Right.{thing_made};
 ghost use Rattle.replay.specs.Filed.{file_meanings, AllFiled, MadeAs};
 
 use crate::filed_rows::FiledRows;
-use crate::named::{named_rows, named_two};
+use crate::named::{named, named_rows, named_two};
 use deriv_file::Row;
 use rows::{Maker, RowStore};
 use std::alloc::{AllocError, Global};
@@ -97,6 +97,24 @@ pub fn thing_row(
                 return Ok(None);
             };
             Ok(Some(store.ctx_var(ctx, ty)?))
+        }
+        Row::CtxName(ctx) => {
+            let Some(ctx) = named(store, filed, *ctx, PartKind::Context) else {
+                return Ok(None);
+            };
+            Ok(Some(store.ctx_name(ctx)?))
+        }
+        Row::CtxFace(ctx, face) => {
+            let named = named_two(
+                store,
+                filed,
+                (*ctx, PartKind::Context),
+                (*face, PartKind::Term),
+            );
+            let Some((ctx, face)) = named else {
+                return Ok(None);
+            };
+            Ok(Some(store.ctx_face(ctx, face)?))
         }
         Row::Header(_) | Row::Node(_, _, _) | Row::Root(_) => Ok(None),
     }

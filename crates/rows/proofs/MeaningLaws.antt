@@ -26,15 +26,15 @@ is_some-value None some = cc
 is_some-value (Some x) some = (x, refl)
 
 -- rows go on to mean what they mean
-both-kept : {C : Type 0} (f g : Meanings) → Kept f g → (h : Thing → Thing → Option C) (j k : ℕ) (x : C) → both h (f j) (f k) ≡ Some x → both h (g j) (g k) ≡ Some x
+pub both-kept : {C : Type 0} (f g : Meanings) → Kept f g → (h : Thing → Thing → Option C) (j k : ℕ) (x : C) → both h (f j) (f k) ≡ Some x → both h (g j) (g k) ≡ Some x
 both-kept f g kept h j k x e =
     let b = both-some h (f j) (f k) x e in
     rw (kept.keeps j b.first b.first_is, kept.keeps k b.second b.second_is) b.whole
 
-one-kept : {C : Type 0} (f g : Meanings) → Kept f g → (h : Thing → Option C) (k : ℕ) (x : C) → option_and_then h (f k) ≡ Some x → option_and_then h (g k) ≡ Some x
+pub one-kept : {C : Type 0} (f g : Meanings) → Kept f g → (h : Thing → Option C) (k : ℕ) (x : C) → option_and_then h (f k) ≡ Some x → option_and_then h (g k) ≡ Some x
 one-kept f g kept h k x e = let o = one-some h (f k) x e in rw (kept.keeps k o.first o.first_is) o.whole
 
-sub_meaning-kept : (f g : Meanings) → Kept f g → (r : SubRow) (x : Thing) → sub_meaning f r ≡ Some x → sub_meaning g r ≡ Some x
+pub sub_meaning-kept : (f g : Meanings) → Kept f g → (r : SubRow) (x : Thing) → sub_meaning f r ≡ Some x → sub_meaning g r ≡ Some x
 sub_meaning-kept f g kept (sub.Shift n) x e = e
 sub_meaning-kept f g kept (sub.Push d a) x e = both-kept f g kept pushed_on d.0 a.0 x e
 sub_meaning-kept f g kept (sub.Then d e) x is = both-kept f g kept then_of d.0 e.0 x is
@@ -75,18 +75,18 @@ held_names kids subs (held.CtxFace G p) = G.0 ∷ p.0 ∷ []
 abbrev pub Mean : Meanings → ℕ → Type 0
 Mean f k = (x : Thing) × (f k ≡ Some x)
 
-meanings-mean : (f : Meanings) (ks : List ℕ) (xs : List Thing) → meanings f ks ≡ Some xs → All (Mean f) ks
+pub meanings-mean : (f : Meanings) (ks : List ℕ) (xs : List Thing) → meanings f ks ≡ Some xs → All (Mean f) ks
 meanings-mean f [] xs e = All-nil (Mean f)
 meanings-mean f (k ∷ ks) xs e =
     let m = meanings-cons f k ks xs e in
     All-cons (Mean f) k ks (m.first, m.first_is) (meanings-mean f ks m.rest m.rest_is)
 
-both-mean : (f : Meanings) (h : Thing → Thing → Option Thing) (j k : ℕ) (x : Thing) → both h (f j) (f k) ≡ Some x → All (Mean f) (j ∷ k ∷ [])
+pub both-mean : (f : Meanings) (h : Thing → Thing → Option Thing) (j k : ℕ) (x : Thing) → both h (f j) (f k) ≡ Some x → All (Mean f) (j ∷ k ∷ [])
 both-mean f h j k x e =
     let b = both-some h (f j) (f k) x e in
     All-cons (Mean f) j (k ∷ []) (b.first, b.first_is) (All-cons (Mean f) k [] (b.second, b.second_is) (All-nil (Mean f)))
 
-sub_names-mean : (f : Meanings) (r : SubRow) (x : Thing) → sub_meaning f r ≡ Some x → All (Mean f) (sub_names r)
+pub sub_names-mean : (f : Meanings) (r : SubRow) (x : Thing) → sub_meaning f r ≡ Some x → All (Mean f) (sub_names r)
 sub_names-mean f (sub.Shift n) x e = All-nil (Mean f)
 sub_names-mean f (sub.Push d a) x e = both-mean f pushed_on d.0 a.0 x e
 sub_names-mean f (sub.Then d e) x is = both-mean f then_of d.0 e.0 x is
@@ -111,7 +111,7 @@ held_names-mean f kids subs (held.CtxName G) x e =
 held_names-mean f kids subs (held.CtxFace G p) x e = both-mean f with_a_face G.0 p.0 x e
 
 -- a row means a thing of its kind
-kind-same : (y x : Thing) → Some y ≡ Some x → kind_of x ≡ kind_of y
+pub kind-same : (y x : Thing) → Some y ≡ Some x → kind_of x ≡ kind_of y
 kind-same y x e = let same : y ≡ x = cc in sym (ap kind_of same)
 
 -- an operator is over as many trees as it has kids
@@ -125,34 +125,34 @@ over_kids-is op ts x e = let h = over_kids-cond op (length ts == kids_of op) ts 
 pub over_kids-there : (op : Op) (ts : List Tree) → length ts ≡ kids_of op → over_kids op ts ≡ Some (ATree (Make op (trees_of ts)))
 over_kids-there op ts e = let same : (length ts == kids_of op) ≡ true = grind (arith, nat_tests) in rw same refl
 
-over_kids-kind : (op : Op) (ts : List Tree) (x : Thing) → over_kids op ts ≡ Some x → kind_of x ≡ part.Term
+pub over_kids-kind : (op : Op) (ts : List Tree) (x : Thing) → over_kids op ts ≡ Some x → kind_of x ≡ part.Term
 over_kids-kind op ts x e = ap kind_of (over_kids-is op ts x e).1
 
-instance_of-kind : (a b x : Thing) → instance_of a b ≡ Some x → kind_of x ≡ part.Term
+pub instance_of-kind : (a b x : Thing) → instance_of a b ≡ Some x → kind_of x ≡ part.Term
 instance_of-kind (ATree t) (ASubst d) x e = kind-same _ x e
 instance_of-kind _ _ x e = cc
 
-pushed_on-kind : (a b x : Thing) → pushed_on a b ≡ Some x → kind_of x ≡ part.Subst
+pub pushed_on-kind : (a b x : Thing) → pushed_on a b ≡ Some x → kind_of x ≡ part.Subst
 pushed_on-kind (ASubst d) (ATree t) x e = kind-same _ x e
 pushed_on-kind _ _ x e = cc
 
-then_of-kind : (a b x : Thing) → then_of a b ≡ Some x → kind_of x ≡ part.Subst
+pub then_of-kind : (a b x : Thing) → then_of a b ≡ Some x → kind_of x ≡ part.Subst
 then_of-kind (ASubst d) (ASubst e) x is = kind-same _ x is
 then_of-kind _ _ x is = cc
 
-with_variable-kind : (a b x : Thing) → with_variable a b ≡ Some x → kind_of x ≡ part.Context
+pub with_variable-kind : (a b x : Thing) → with_variable a b ≡ Some x → kind_of x ≡ part.Context
 with_variable-kind (AContext G) (ATree t) x e = kind-same _ x e
 with_variable-kind _ _ x e = cc
 
-with_a_name-kind : (a x : Thing) → with_a_name a ≡ Some x → kind_of x ≡ part.Context
+pub with_a_name-kind : (a x : Thing) → with_a_name a ≡ Some x → kind_of x ≡ part.Context
 with_a_name-kind (AContext G) x e = kind-same _ x e
 with_a_name-kind _ x e = cc
 
-with_a_face-kind : (a b x : Thing) → with_a_face a b ≡ Some x → kind_of x ≡ part.Context
+pub with_a_face-kind : (a b x : Thing) → with_a_face a b ≡ Some x → kind_of x ≡ part.Context
 with_a_face-kind (AContext G) (ATree t) x e = kind-same _ x e
 with_a_face-kind _ _ x e = cc
 
-both-kind : (f : Meanings) (h : Thing → Thing → Option Thing) (kind : PartKind) → ((a b x : Thing) → h a b ≡ Some x → kind_of x ≡ kind) → (j k : ℕ) (x : Thing) → both h (f j) (f k) ≡ Some x → kind_of x ≡ kind
+pub both-kind : (f : Meanings) (h : Thing → Thing → Option Thing) (kind : PartKind) → ((a b x : Thing) → h a b ≡ Some x → kind_of x ≡ kind) → (j k : ℕ) (x : Thing) → both h (f j) (f k) ≡ Some x → kind_of x ≡ kind
 both-kind f h kind of j k x e = let b = both-some h (f j) (f k) x e in of b.first b.second x b.whole
 
 sub_meaning-kind : (f : Meanings) (r : SubRow) (x : Thing) → sub_meaning f r ≡ Some x → kind_of x ≡ part.Subst

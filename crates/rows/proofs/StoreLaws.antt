@@ -198,7 +198,7 @@ kind_there rows kids subs h k r x is there =
     ap kind_of (sym same) ∙ m.kind
 
 -- the size of a substitution and then another
-pub then_size : (i j new : ℕ) (o p : Option Thing) (a b r : HeldSize) → i < new → j < new → new < 2 ^ 64 → ShiftAtMost greatest_shift o → IsSizeAt i o a → IsSizeAt j p b → r.pushed ≡ min (a.pushed + (b.pushed - a.shift)) most_counted → r.shift ≡ b.shift + (a.shift - b.pushed) → IsSizeAt new (both then_of o p) r
+pub then_size : (i j new : ℕ) (o p : Option Thing) (a b r : HeldSize) → i < new → j < new → j < 2 ^ 64 → ShiftAtMost greatest_shift o → IsSizeAt i o a → IsSizeAt j p b → r.pushed ≡ min (a.pushed + (b.pushed - a.shift)) most_counted → r.shift ≡ b.shift + (a.shift - b.pushed) → IsSizeAt new (both then_of o p) r
 then_size i j new (Some (ASubst d)) (Some (ASubst e)) a b r li lj few small first second pushed shift =
     let first_count = count_held-is i (count_of d.pushed) a.pushed first.count in
     let second_count = count_held-is j (count_of e.pushed) b.pushed second.count in
@@ -208,7 +208,7 @@ then_size i j new (Some (ASubst d)) (Some (ASubst e)) a b r li lj few small firs
           let h = count_held-then i j new (count_of d.pushed) a.pushed (count_of e.pushed) b.pushed a.shift li lj least first_count second_count in
           rw (count_of-then d e, first.shift, pushed) (is-count_held new (count_of d.pushed + (count_of e.pushed - a.shift)) (min (a.pushed + (b.pushed - a.shift)) most_counted) h);
       shift =
-          let past = past-held j (count_of e.pushed) b.pushed a.shift (omega arith) least second_count in
+          let past = past-held j (count_of e.pushed) b.pushed a.shift few least second_count in
           shift-then d e ∙ ap₂ (λ m n. m + (n - count_of e.pushed)) second.shift first.shift ∙ ap (λ n. b.shift + n) past ∙ sym shift;
     }
 then_size i j new (Some (ASubst d)) (Some (ATree t)) a b r li lj few small first second pushed shift = second

@@ -22,6 +22,7 @@ mod store;
 mod traits;
 mod views;
 
+pub use held::HeldSize;
 pub use store::RowStore;
 pub use traits::{Maker, Reader, Rows};
 pub use views::{CtxId, CtxRow, Row, SubId, SubRow, SubSize, TermId, TermRow};

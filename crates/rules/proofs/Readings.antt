@@ -10,11 +10,15 @@ use Rattle.trees.specs.declared.kind.PartKind.TheVariants as part
 use Rattle.trees.specs.Judgements.{trees, TreeRule}
 use Rattle.trees.specs.Things.{Thing, ATree, ASubst, AContext}
 use Rattle.theory.specs.declared.rule.RuleName.{RuleName}
-use Rattle.theory.specs.declared.rule.RuleName.TheVariants.{Contexts, Substitution, Universe, Pi, Naturals}
+use Rattle.theory.specs.declared.rule.RuleName.TheVariants.{Contexts, Instances, Equality}
+use Rattle.theory.specs.declared.rule.RuleName.TheVariants.{Universe, Pi, Sigma, Paths, Naturals}
 use Rattle.theory.specs.declared.rule.ContextRule.TheVariants.{CtxNil}
-use Rattle.theory.specs.declared.rule.UniverseRule.TheVariants.{TyU}
-use Rattle.theory.specs.declared.rule.SubstitutionRule.TheVariants.{TySub}
+use Rattle.theory.specs.declared.rule.InstanceRule.TheVariants.{TySub}
+use Rattle.theory.specs.declared.rule.EqualityRule.TheVariants.{TyEqRefl}
+use Rattle.theory.specs.declared.rule.UniverseRule.TheVariants.{TyUniv}
 use Rattle.theory.specs.declared.rule.PiRule.TheVariants.{PiTy}
+use Rattle.theory.specs.declared.rule.SigmaRule.TheVariants.{SigTy}
+use Rattle.theory.specs.declared.rule.PathRule.TheVariants.{PathTy}
 use Rattle.theory.specs.declared.rule.NatRule.TheVariants.{NatU}
 use Rattle.theory.specs.RuleNames.{kinds_of, premises_of}
 use Rattle.rules.specs.Table.{Over}
@@ -31,11 +35,18 @@ use Rattle.rules.specs.declared.program.Schema.{Schema}
 pub at_all : (name : RuleName) (P : List Thing → TreeRule → Type 0) → AtAllCases name P → AtAll name P
 at_all (Contexts CtxNil) P h = h
 at_all (Contexts name) P h = h
-at_all (Substitution TySub) P h = h
-at_all (Substitution name) P h = h
-at_all (Universe TyU) P h = h
+at_all (Instances TySub) P h = h
+at_all (Instances name) P h = h
+at_all (Equality TyEqRefl) P h = h
+at_all (Equality name) P h = h
+at_all (Universe TyUniv) P h = h
+at_all (Universe name) P h = h
 at_all (Pi PiTy) P h = h
 at_all (Pi name) P h = h
+at_all (Sigma SigTy) P h = h
+at_all (Sigma name) P h = h
+at_all (Paths PathTy) P h = h
+at_all (Paths name) P h = h
 at_all (Naturals NatU) P h = h
 at_all (Naturals name) P h = h
 

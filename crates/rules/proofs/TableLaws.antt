@@ -3,12 +3,16 @@ use Rattle.std.proofs.Common.{rules, ◌≡◌, List, [], ◌∷◌, length, ref
 use Rattle.trees.specs.declared.kind.PartKind.{PartKind}
 use Rattle.trees.specs.declared.kind.PartKind.TheVariants as part
 use Rattle.theory.specs.declared.rule.ContextRule.TheVariants.{CtxNil}
-use Rattle.theory.specs.declared.rule.UniverseRule.TheVariants.{TyU}
-use Rattle.theory.specs.declared.rule.SubstitutionRule.TheVariants.{TySub}
+use Rattle.theory.specs.declared.rule.InstanceRule.TheVariants.{TySub}
+use Rattle.theory.specs.declared.rule.EqualityRule.TheVariants.{TyEqRefl}
+use Rattle.theory.specs.declared.rule.UniverseRule.TheVariants.{TyUniv}
 use Rattle.theory.specs.declared.rule.PiRule.TheVariants.{PiTy}
+use Rattle.theory.specs.declared.rule.SigmaRule.TheVariants.{SigTy}
+use Rattle.theory.specs.declared.rule.PathRule.TheVariants.{PathTy}
 use Rattle.theory.specs.declared.rule.NatRule.TheVariants.{NatU}
 use Rattle.theory.specs.declared.rule.RuleName.{RuleName}
-use Rattle.theory.specs.declared.rule.RuleName.TheVariants.{Contexts, Substitution, Universe, Pi, Naturals}
+use Rattle.theory.specs.declared.rule.RuleName.TheVariants.{Contexts, Instances, Equality}
+use Rattle.theory.specs.declared.rule.RuleName.TheVariants.{Universe, Pi, Sigma, Paths, Naturals}
 use Rattle.trees.specs.Judgements.{trees, TreeRule}
 use Rattle.theory.specs.RuleNames.{kinds_of, premises_of}
 use Rattle.trees.specs.Things.{Thing, ATree, ASubst, AContext, kind_of}
@@ -20,11 +24,18 @@ use Rattle.rules.proofs.Readings.{at_parts}
 counted : (name : RuleName) → AtAll name (λ xs r. length r.wants ≡ premises_of name)
 counted (Contexts CtxNil) = search rules
 counted (Contexts _) = search rules
-counted (Substitution TySub) = search rules
-counted (Substitution _) = search rules
-counted (Universe TyU) = search rules
+counted (Instances TySub) = search rules
+counted (Instances _) = search rules
+counted (Equality TyEqRefl) = search rules
+counted (Equality _) = search rules
+counted (Universe TyUniv) = search rules
+counted (Universe _) = search rules
 counted (Pi PiTy) = search rules
 counted (Pi _) = search rules
+counted (Sigma SigTy) = search rules
+counted (Sigma _) = search rules
+counted (Paths PathTy) = search rules
+counted (Paths _) = search rules
 counted (Naturals NatU) = search rules
 counted (Naturals _) = search rules
 
@@ -32,11 +43,18 @@ counted (Naturals _) = search rules
 sideless : (name : RuleName) → AtAll name (λ xs r. r.sides ≡ [])
 sideless (Contexts CtxNil) = search rules
 sideless (Contexts _) = search rules
-sideless (Substitution TySub) = search rules
-sideless (Substitution _) = search rules
-sideless (Universe TyU) = search rules
+sideless (Instances TySub) = search rules
+sideless (Instances _) = search rules
+sideless (Equality TyEqRefl) = search rules
+sideless (Equality _) = search rules
+sideless (Universe TyUniv) = search rules
+sideless (Universe _) = search rules
 sideless (Pi PiTy) = search rules
 sideless (Pi _) = search rules
+sideless (Sigma SigTy) = search rules
+sideless (Sigma _) = search rules
+sideless (Paths PathTy) = search rules
+sideless (Paths _) = search rules
 sideless (Naturals NatU) = search rules
 sideless (Naturals _) = search rules
 

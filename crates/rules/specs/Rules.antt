@@ -3,12 +3,16 @@ use Rattle.std.specs.Prelude.{List, [], ◌∷◌, Option, Some, None}
 use Rattle.trees.specs.declared.kind.PartKind.{PartKind}
 use Rattle.trees.specs.declared.kind.PartKind.TheVariants as part
 use Rattle.theory.specs.declared.rule.RuleName.{RuleName}
-use Rattle.theory.specs.declared.rule.RuleName.TheVariants.{Contexts, Substitution, Universe}
-use Rattle.theory.specs.declared.rule.RuleName.TheVariants.{Pi, Naturals}
+use Rattle.theory.specs.declared.rule.RuleName.TheVariants.{Contexts, Instances, Equality}
+use Rattle.theory.specs.declared.rule.RuleName.TheVariants.{Universe, Pi, Sigma, Paths}
+use Rattle.theory.specs.declared.rule.RuleName.TheVariants.{Naturals}
 use Rattle.theory.specs.declared.rule.ContextRule.TheVariants.{CtxNil}
-use Rattle.theory.specs.declared.rule.UniverseRule.TheVariants.{TyU}
-use Rattle.theory.specs.declared.rule.SubstitutionRule.TheVariants.{TySub}
+use Rattle.theory.specs.declared.rule.InstanceRule.TheVariants.{TySub}
+use Rattle.theory.specs.declared.rule.EqualityRule.TheVariants.{TyEqRefl}
+use Rattle.theory.specs.declared.rule.UniverseRule.TheVariants.{TyUniv}
 use Rattle.theory.specs.declared.rule.PiRule.TheVariants.{PiTy}
+use Rattle.theory.specs.declared.rule.SigmaRule.TheVariants.{SigTy}
+use Rattle.theory.specs.declared.rule.PathRule.TheVariants.{PathTy}
 use Rattle.theory.specs.declared.rule.NatRule.TheVariants.{NatU}
 use Rattle.trees.specs.Trees.{Tree, Subst}
 use Rattle.trees.specs.Judgements.{Context, trees, TreeRule}
@@ -51,10 +55,17 @@ AtAll name = AtAllParts (kinds_of name) (tree_rule name)
 abbrev pub AtAllCases : RuleName → (List Thing → TreeRule → Type 0) → Type 0
 AtAllCases (Contexts CtxNil) P = AtAll (Contexts CtxNil) P
 AtAllCases (Contexts name) P = AtAll (Contexts name) P
-AtAllCases (Substitution TySub) P = AtAll (Substitution TySub) P
-AtAllCases (Substitution name) P = AtAll (Substitution name) P
-AtAllCases (Universe TyU) P = AtAll (Universe TyU) P
+AtAllCases (Instances TySub) P = AtAll (Instances TySub) P
+AtAllCases (Instances name) P = AtAll (Instances name) P
+AtAllCases (Equality TyEqRefl) P = AtAll (Equality TyEqRefl) P
+AtAllCases (Equality name) P = AtAll (Equality name) P
+AtAllCases (Universe TyUniv) P = AtAll (Universe TyUniv) P
+AtAllCases (Universe name) P = AtAll (Universe name) P
 AtAllCases (Pi PiTy) P = AtAll (Pi PiTy) P
 AtAllCases (Pi name) P = AtAll (Pi name) P
+AtAllCases (Sigma SigTy) P = AtAll (Sigma SigTy) P
+AtAllCases (Sigma name) P = AtAll (Sigma name) P
+AtAllCases (Paths PathTy) P = AtAll (Paths PathTy) P
+AtAllCases (Paths name) P = AtAll (Paths name) P
 AtAllCases (Naturals NatU) P = AtAll (Naturals NatU) P
 AtAllCases (Naturals name) P = AtAll (Naturals name) P

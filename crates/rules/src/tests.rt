@@ -14,8 +14,7 @@ use std::alloc::AllocError;
 use std::process::Abort;
 use std::test::Fail;
 use theory::{
-    Claim, ContextRule, NatRule, Op, PiRule, RuleName, SubstitutionRule, UniverseRule,
-    count_premises,
+    Claim, ContextRule, InstanceRule, NatRule, Op, PiRule, RuleName, UniverseRule, count_premises,
 };
 
 /// `[]`
@@ -246,7 +245,7 @@ fn substitutions_say(rt: HostRuntime) -> Result<(), Fail> {
 fn instances_say(rt: HostRuntime) -> Result<(), Fail> {
     let maker = &mut KnownRows;
 
-    let rule = RuleName::Substitution(SubstitutionRule::TySub);
+    let rule = RuleName::Instances(InstanceRule::TySub);
     let wants = [Claim::Sb(CTX, UP, NIL), Claim::Ty(NIL, NAT)];
     says(
         &rt,
@@ -257,7 +256,7 @@ fn instances_say(rt: HostRuntime) -> Result<(), Fail> {
         Claim::Ty(CTX, NAT),
     )?;
 
-    let rule = RuleName::Substitution(SubstitutionRule::TmSub);
+    let rule = RuleName::Instances(InstanceRule::TmSub);
     let wants = [Claim::Sb(NIL, PUSHED, CTX), Claim::Tm(CTX, VAR, NAT)];
     says(
         &rt,
@@ -268,7 +267,7 @@ fn instances_say(rt: HostRuntime) -> Result<(), Fail> {
         Claim::Tm(NIL, ZERO, NAT),
     )?;
 
-    let rule = RuleName::Substitution(SubstitutionRule::TmVar);
+    let rule = RuleName::Instances(InstanceRule::TmVar);
     let wants = [Claim::Ty(NIL, NAT)];
     says(
         &rt,

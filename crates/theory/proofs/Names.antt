@@ -1,5 +1,6 @@
 -- The names of operators and rules are distinct, and are words of visible characters; the tables have each.
-use Rattle.std.proofs.Common.{◌≡◌, ℕ, ◌<◌, Bool, true, nat_lt, List, Some, refl}
+use Rattle.std.proofs.Common.{◌≡◌, ℕ, zero, suc, ◌<◌, Bool, true, nat_lt, List, [], ◌∷◌, length, get_or, Some, refl, sym, ◌∙◌, ap, arith}
+use Rattle.std.specs.Prelude.{slice_get}
 use Rattle.std.specs.List.{list_all, All}
 use Rattle.std.proofs.lemmas.Bool.Decides.{Decides-by_and, Decides-ltb}
 use Rattle.trees.specs.Operators.{name_of as operator_name}
@@ -8,11 +9,15 @@ use Rattle.trees.specs.declared.op.Op.{Op}
 use Rattle.trees.specs.declared.op.Op.TheVariants.{I0}
 use Rattle.theory.specs.declared.operators.TheConstants.{OPERATORS}
 use Rattle.theory.specs.declared.rule.RuleName.{RuleName}
-use Rattle.theory.specs.declared.rule.RuleName.TheVariants.{Contexts, Substitution, Universe, Pi, Naturals}
+use Rattle.theory.specs.declared.rule.RuleName.TheVariants.{Contexts, Instances, Equality}
+use Rattle.theory.specs.declared.rule.RuleName.TheVariants.{Universe, Pi, Sigma, Paths, Naturals}
 use Rattle.theory.specs.declared.rule.ContextRule.TheVariants.{CtxNil}
-use Rattle.theory.specs.declared.rule.UniverseRule.TheVariants.{TyU}
-use Rattle.theory.specs.declared.rule.SubstitutionRule.TheVariants.{TySub}
+use Rattle.theory.specs.declared.rule.InstanceRule.TheVariants.{TySub}
+use Rattle.theory.specs.declared.rule.EqualityRule.TheVariants.{TyEqRefl}
+use Rattle.theory.specs.declared.rule.UniverseRule.TheVariants.{TyUniv}
 use Rattle.theory.specs.declared.rule.PiRule.TheVariants.{PiTy}
+use Rattle.theory.specs.declared.rule.SigmaRule.TheVariants.{SigTy}
+use Rattle.theory.specs.declared.rule.PathRule.TheVariants.{PathTy}
 use Rattle.theory.specs.declared.rule.NatRule.TheVariants.{NatU}
 use Rattle.theory.specs.declared.rule.TheConstants.{RULES}
 use Rattle.theory.proofs.LookupLaws.{named, same_from_name}
@@ -37,22 +42,36 @@ operator_is_visible _ = refl
 pub every_rule : (rule : RuleName) → named rule_name RULES.now (rule_name rule) ≡ Some rule
 every_rule (Contexts CtxNil) = refl
 every_rule (Contexts _) = refl
-every_rule (Substitution TySub) = refl
-every_rule (Substitution _) = refl
-every_rule (Universe TyU) = refl
+every_rule (Instances TySub) = refl
+every_rule (Instances _) = refl
+every_rule (Equality TyEqRefl) = refl
+every_rule (Equality _) = refl
+every_rule (Universe TyUniv) = refl
+every_rule (Universe _) = refl
 every_rule (Pi PiTy) = refl
 every_rule (Pi _) = refl
+every_rule (Sigma SigTy) = refl
+every_rule (Sigma _) = refl
+every_rule (Paths PathTy) = refl
+every_rule (Paths _) = refl
 every_rule (Naturals NatU) = refl
 every_rule (Naturals _) = refl
 
 rule_is_visible : (rule : RuleName) → is_visible (rule_name rule) ≡ true
 rule_is_visible (Contexts CtxNil) = refl
 rule_is_visible (Contexts _) = refl
-rule_is_visible (Substitution TySub) = refl
-rule_is_visible (Substitution _) = refl
-rule_is_visible (Universe TyU) = refl
+rule_is_visible (Instances TySub) = refl
+rule_is_visible (Instances _) = refl
+rule_is_visible (Equality TyEqRefl) = refl
+rule_is_visible (Equality _) = refl
+rule_is_visible (Universe TyUniv) = refl
+rule_is_visible (Universe _) = refl
 rule_is_visible (Pi PiTy) = refl
 rule_is_visible (Pi _) = refl
+rule_is_visible (Sigma SigTy) = refl
+rule_is_visible (Sigma _) = refl
+rule_is_visible (Paths PathTy) = refl
+rule_is_visible (Paths _) = refl
 rule_is_visible (Naturals NatU) = refl
 rule_is_visible (Naturals _) = refl
 
@@ -67,3 +86,12 @@ same_operator = same_from_name operator_name OPERATORS.now refl every_operator
 
 pub same_rule : (rule other : RuleName) → rule_name rule ≡ rule_name other → rule ≡ other
 same_rule = same_from_name rule_name RULES.now refl every_rule
+
+-- the rule stands at the place that has its name
+pub place-of_rule : (rule : RuleName) (at : ℕ) → at < length RULES.now → ((d : RuleName) → rule_name rule ≡ rule_name (get_or RULES.now at d)) → slice_get RULES.now at ≡ Some rule
+place-of_rule rule at within same = there RULES.now at within ∙ ap Some (sym (same_rule rule (get_or RULES.now at rule) (same rule)))
+  where
+    there : (rules : List RuleName) (at : ℕ) → at < length rules → slice_get rules at ≡ Some (get_or rules at rule)
+    there [] at lt = absurd (omega arith)
+    there (x ∷ rules) zero lt = refl
+    there (x ∷ rules) (suc at) lt = there rules at (omega arith)

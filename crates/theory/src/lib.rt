@@ -15,8 +15,9 @@ mod signatures;
 
 pub use operators::op_of;
 pub use rule::{
-    ContextRule, NatRule, PiRule, RuleName, SubstitutionRule, UniverseRule, count_parts,
-    count_premises, part_kind, part_kinds, rule_name, rule_of,
+    ContextRule, EqualityRule, InstanceRule, NatRule, PathRule, PiRule, RULES, RuleName, SigmaRule,
+    UniverseRule, count_parts, count_premises, numbered_rule, part_kind, part_kinds, rule_name,
+    rule_number, rule_of,
 };
 pub use signatures::{Signature, signature_of};
 pub use trees::{Claim, ClaimRows, JudgementForm, Op, PartKind, binds, kid_count, op_name};

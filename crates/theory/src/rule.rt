@@ -7,28 +7,52 @@ ghost use Rattle.theory.specs.declared.rule.RuleName.{RuleName};
 use crate::signatures::signature_of;
 use trees::PartKind;
 
+// Written by tools/write_rules.py from here on.
+
 /// The rules that conclude a context or a substitution.
 #[derive(Clone, Copy, Debug, PartialEq, Eq)]
 pub enum ContextRule {
     CtxNil,
     CtxVar,
+    CtxName,
     SubId,
     SubWk,
+    SubWkName,
     SubVar,
+    SubComp,
 }
 
 /// The rules that apply a substitution, and that of the variable.
 #[derive(Clone, Copy, Debug, PartialEq, Eq)]
-pub enum SubstitutionRule {
+pub enum InstanceRule {
     TySub,
+    TyEqSub,
     TmSub,
+    TmEqSub,
+    TyCong,
+    TmCong,
     TmVar,
+}
+
+/// The rules of equality: an equivalence, kept by conversion, and decided on faces that cover all.
+#[derive(Clone, Copy, Debug, PartialEq, Eq)]
+pub enum EqualityRule {
+    TyEqRefl,
+    TyEqSym,
+    TyEqTrans,
+    TmEqRefl,
+    TmEqSym,
+    TmEqTrans,
+    TmConv,
+    TmEqConv,
 }
 
 /// The rules of the universe.
 #[derive(Clone, Copy, Debug, PartialEq, Eq)]
 pub enum UniverseRule {
+    TyUniv,
     TyU,
+    TyEqU,
 }
 
 /// The rules of functions.
@@ -36,8 +60,43 @@ pub enum UniverseRule {
 pub enum PiRule {
     PiTy,
     PiU,
+    PiTyCong,
+    PiUCong,
     Lam,
     App,
+    AppCong,
+    PiBeta,
+    PiEta,
+}
+
+/// The rules of pairs.
+#[derive(Clone, Copy, Debug, PartialEq, Eq)]
+pub enum SigmaRule {
+    SigTy,
+    SigU,
+    SigTyCong,
+    SigUCong,
+    Pair,
+    Fst,
+    Snd,
+    FstCong,
+    SndCong,
+    SigBeta1,
+    SigBeta2,
+    SigEta,
+}
+
+/// The rules of paths.
+#[derive(Clone, Copy, Debug, PartialEq, Eq)]
+pub enum PathRule {
+    PathTy,
+    PathU,
+    PathTyCong,
+    PathUCong,
+    PLam,
+    PathLeft,
+    PathRight,
+    PathEta,
 }
 
 /// The rules of the natural numbers.
@@ -46,37 +105,94 @@ pub enum NatRule {
     NatU,
     Zero,
     Suc,
+    SucCong,
+    NatRec,
+    NatRecCong,
+    NatRecZero,
+    NatRecSuc,
 }
 
 /// A rule. The rules stand in families.
 #[derive(Clone, Copy, Debug, PartialEq, Eq)]
 pub enum RuleName {
     Contexts(ContextRule),
-    Substitution(SubstitutionRule),
+    Instances(InstanceRule),
+    Equality(EqualityRule),
     Universe(UniverseRule),
     Pi(PiRule),
+    Sigma(SigmaRule),
+    Paths(PathRule),
     Naturals(NatRule),
 }
 
 /// Every rule, in the order of their names.
-static RULES: &[RuleName] = &[
+pub static RULES: &[RuleName] = &[
     RuleName::Pi(PiRule::App),
+    RuleName::Pi(PiRule::AppCong),
+    RuleName::Contexts(ContextRule::CtxName),
     RuleName::Contexts(ContextRule::CtxNil),
     RuleName::Contexts(ContextRule::CtxVar),
+    RuleName::Sigma(SigmaRule::Fst),
+    RuleName::Sigma(SigmaRule::FstCong),
     RuleName::Pi(PiRule::Lam),
     RuleName::Naturals(NatRule::NatU),
+    RuleName::Naturals(NatRule::NatRec),
+    RuleName::Naturals(NatRule::NatRecCong),
+    RuleName::Naturals(NatRule::NatRecSuc),
+    RuleName::Naturals(NatRule::NatRecZero),
+    RuleName::Sigma(SigmaRule::Pair),
+    RuleName::Paths(PathRule::PathEta),
+    RuleName::Paths(PathRule::PathLeft),
+    RuleName::Paths(PathRule::PathRight),
+    RuleName::Paths(PathRule::PathTy),
+    RuleName::Paths(PathRule::PathTyCong),
+    RuleName::Paths(PathRule::PathU),
+    RuleName::Paths(PathRule::PathUCong),
+    RuleName::Pi(PiRule::PiBeta),
+    RuleName::Pi(PiRule::PiEta),
     RuleName::Pi(PiRule::PiTy),
+    RuleName::Pi(PiRule::PiTyCong),
     RuleName::Pi(PiRule::PiU),
+    RuleName::Pi(PiRule::PiUCong),
+    RuleName::Paths(PathRule::PLam),
+    RuleName::Sigma(SigmaRule::SigBeta1),
+    RuleName::Sigma(SigmaRule::SigBeta2),
+    RuleName::Sigma(SigmaRule::SigEta),
+    RuleName::Sigma(SigmaRule::SigTy),
+    RuleName::Sigma(SigmaRule::SigTyCong),
+    RuleName::Sigma(SigmaRule::SigU),
+    RuleName::Sigma(SigmaRule::SigUCong),
+    RuleName::Sigma(SigmaRule::Snd),
+    RuleName::Sigma(SigmaRule::SndCong),
+    RuleName::Contexts(ContextRule::SubComp),
     RuleName::Contexts(ContextRule::SubId),
     RuleName::Contexts(ContextRule::SubVar),
     RuleName::Contexts(ContextRule::SubWk),
+    RuleName::Contexts(ContextRule::SubWkName),
     RuleName::Naturals(NatRule::Suc),
-    RuleName::Substitution(SubstitutionRule::TmSub),
-    RuleName::Substitution(SubstitutionRule::TmVar),
-    RuleName::Substitution(SubstitutionRule::TySub),
+    RuleName::Naturals(NatRule::SucCong),
+    RuleName::Instances(InstanceRule::TmCong),
+    RuleName::Equality(EqualityRule::TmConv),
+    RuleName::Instances(InstanceRule::TmSub),
+    RuleName::Instances(InstanceRule::TmVar),
+    RuleName::Equality(EqualityRule::TmEqConv),
+    RuleName::Equality(EqualityRule::TmEqRefl),
+    RuleName::Instances(InstanceRule::TmEqSub),
+    RuleName::Equality(EqualityRule::TmEqSym),
+    RuleName::Equality(EqualityRule::TmEqTrans),
+    RuleName::Instances(InstanceRule::TyCong),
+    RuleName::Instances(InstanceRule::TySub),
     RuleName::Universe(UniverseRule::TyU),
+    RuleName::Universe(UniverseRule::TyUniv),
+    RuleName::Equality(EqualityRule::TyEqRefl),
+    RuleName::Instances(InstanceRule::TyEqSub),
+    RuleName::Equality(EqualityRule::TyEqSym),
+    RuleName::Equality(EqualityRule::TyEqTrans),
+    RuleName::Universe(UniverseRule::TyEqU),
     RuleName::Naturals(NatRule::Zero),
 ];
+
+// Written by hand from here on.
 
 /// The name of a rule in derivation files.
 pub fn rule_name(rule: RuleName) -> &'static str
@@ -138,4 +254,31 @@ pub fn rule_of(name: &[u8], version: u32) -> Option<RuleName>
     } else {
         None
     }
+}
+
+/// The number of a rule among all of them, which are in the order of their names.
+pub fn rule_number(rule: RuleName) -> u64
+    ensures { slice_get RULES.now result ≡ Some rule }
+{
+    let name = rule_name(rule).as_bytes();
+    match RULES.binary_search_by(|other| rule_name(*other).as_bytes().cmp(name)) {
+        Ok(at) => at as u64,
+        Err(_) => unreachable!(),
+    }
+}
+
+/// The rule of a number.
+pub fn numbered_rule(number: u64) -> RuleName
+    requires { number < length RULES.now }
+    ensures { slice_get RULES.now number ≡ Some result }
+{
+    nth(RULES, number)
+}
+
+/// One of some rules.
+fn nth(rules: &[RuleName], at: u64) -> RuleName
+    requires { at < length rules.now }
+    ensures { slice_get rules.now at ≡ Some result }
+{
+    rules[at as usize]
 }

@@ -1,11 +1,15 @@
 //! The signatures of the rules, a line each.
 
 ghost use Rattle.std.specs.Prelude.{◌≡◌};
-ghost use Rattle.theory.specs.RuleNames.{signed, context_signature, substitution_signature};
-ghost use Rattle.theory.specs.RuleNames.{universe_signature, pi_signature, nat_signature};
+ghost use Rattle.theory.specs.RuleNames.{signed, context_signature, instance_signature};
+ghost use Rattle.theory.specs.RuleNames.{equality_signature, universe_signature, pi_signature};
+ghost use Rattle.theory.specs.RuleNames.{sigma_signature, path_signature, nat_signature};
 ghost use Rattle.theory.specs.RuleNames.{signature_of, Shows};
 
-use crate::rule::{ContextRule, NatRule, PiRule, RuleName, SubstitutionRule, UniverseRule};
+use crate::rule::{
+    ContextRule, EqualityRule, InstanceRule, NatRule, PathRule, PiRule, RuleName, SigmaRule,
+    UniverseRule,
+};
 use PartKind::{Context, Subst, Term};
 use trees::PartKind;
 
@@ -34,25 +38,61 @@ fn signed(name: &'static str, parts: &'static [PartKind], premises: u8) -> Signa
     }
 }
 
+// Written by tools/write_rules.py from here on.
+
 fn context_signature(rule: ContextRule) -> Signature
     ensures { Shows (context_signature rule) result }
 {
     match rule {
         ContextRule::CtxNil => signed("ctx.nil", &[], 0),
         ContextRule::CtxVar => signed("ctx.var", &[Context, Term], 1),
+        ContextRule::CtxName => signed("ctx.name", &[Context], 1),
         ContextRule::SubId => signed("sub.id", &[Context], 1),
         ContextRule::SubWk => signed("sub.wk", &[Context, Subst, Context, Term], 2),
+        ContextRule::SubWkName => signed("sub.wkname", &[Context, Subst, Context], 1),
         ContextRule::SubVar => signed("sub.var", &[Context, Subst, Context, Term, Term], 3),
+        ContextRule::SubComp => signed("sub.comp", &[Context, Subst, Context, Subst, Context], 2),
     }
 }
 
-fn substitution_signature(rule: SubstitutionRule) -> Signature
-    ensures { Shows (substitution_signature rule) result }
+fn instance_signature(rule: InstanceRule) -> Signature
+    ensures { Shows (instance_signature rule) result }
 {
     match rule {
-        SubstitutionRule::TySub => signed("ty.sub", &[Context, Subst, Context, Term], 2),
-        SubstitutionRule::TmSub => signed("tm.sub", &[Context, Subst, Context, Term, Term], 2),
-        SubstitutionRule::TmVar => signed("tm.var", &[Context, Term], 1),
+        InstanceRule::TySub => signed("ty.sub", &[Context, Subst, Context, Term], 2),
+        InstanceRule::TyEqSub => signed("tyeq.sub", &[Context, Subst, Context, Term, Term], 2),
+        InstanceRule::TmSub => signed("tm.sub", &[Context, Subst, Context, Term, Term], 2),
+        InstanceRule::TmEqSub => signed(
+            "tmeq.sub",
+            &[Context, Subst, Context, Term, Term, Term],
+            2,
+        ),
+        InstanceRule::TyCong => signed(
+            "ty.cong",
+            &[Context, Subst, Context, Term, Term, Term, Term],
+            3,
+        ),
+        InstanceRule::TmCong => signed(
+            "tm.cong",
+            &[Context, Subst, Context, Term, Term, Term, Term, Term],
+            3,
+        ),
+        InstanceRule::TmVar => signed("tm.var", &[Context, Term], 1),
+    }
+}
+
+fn equality_signature(rule: EqualityRule) -> Signature
+    ensures { Shows (equality_signature rule) result }
+{
+    match rule {
+        EqualityRule::TyEqRefl => signed("tyeq.refl", &[Context, Term], 1),
+        EqualityRule::TyEqSym => signed("tyeq.sym", &[Context, Term, Term], 1),
+        EqualityRule::TyEqTrans => signed("tyeq.trans", &[Context, Term, Term, Term], 2),
+        EqualityRule::TmEqRefl => signed("tmeq.refl", &[Context, Term, Term], 1),
+        EqualityRule::TmEqSym => signed("tmeq.sym", &[Context, Term, Term, Term], 1),
+        EqualityRule::TmEqTrans => signed("tmeq.trans", &[Context, Term, Term, Term, Term], 2),
+        EqualityRule::TmConv => signed("tm.conv", &[Context, Term, Term, Term], 2),
+        EqualityRule::TmEqConv => signed("tmeq.conv", &[Context, Term, Term, Term, Term], 2),
     }
 }
 
@@ -60,7 +100,9 @@ fn universe_signature(rule: UniverseRule) -> Signature
     ensures { Shows (universe_signature rule) result }
 {
     match rule {
+        UniverseRule::TyUniv => signed("ty.univ", &[Context], 1),
         UniverseRule::TyU => signed("ty.u", &[Context, Term], 1),
+        UniverseRule::TyEqU => signed("tyeq.u", &[Context, Term, Term], 1),
     }
 }
 
@@ -70,8 +112,59 @@ fn pi_signature(rule: PiRule) -> Signature
     match rule {
         PiRule::PiTy => signed("pi.ty", &[Context, Term, Term], 2),
         PiRule::PiU => signed("pi.u", &[Context, Term, Term], 2),
+        PiRule::PiTyCong => signed("pi.tycong", &[Context, Term, Term, Term, Term], 2),
+        PiRule::PiUCong => signed("pi.ucong", &[Context, Term, Term, Term, Term], 2),
         PiRule::Lam => signed("lam", &[Context, Term, Term, Term], 2),
         PiRule::App => signed("app", &[Context, Term, Term, Term, Term], 2),
+        PiRule::AppCong => signed(
+            "app.cong",
+            &[Context, Term, Term, Term, Term, Term, Term],
+            2,
+        ),
+        PiRule::PiBeta => signed("pi.beta", &[Context, Term, Term, Term, Term], 2),
+        PiRule::PiEta => signed("pi.eta", &[Context, Term, Term, Term, Term], 3),
+    }
+}
+
+fn sigma_signature(rule: SigmaRule) -> Signature
+    ensures { Shows (sigma_signature rule) result }
+{
+    match rule {
+        SigmaRule::SigTy => signed("sig.ty", &[Context, Term, Term], 2),
+        SigmaRule::SigU => signed("sig.u", &[Context, Term, Term], 2),
+        SigmaRule::SigTyCong => signed("sig.tycong", &[Context, Term, Term, Term, Term], 2),
+        SigmaRule::SigUCong => signed("sig.ucong", &[Context, Term, Term, Term, Term], 2),
+        SigmaRule::Pair => signed("pair", &[Context, Term, Term, Term, Term], 3),
+        SigmaRule::Fst => signed("fst", &[Context, Term, Term, Term], 1),
+        SigmaRule::Snd => signed("snd", &[Context, Term, Term, Term], 1),
+        SigmaRule::FstCong => signed("fst.cong", &[Context, Term, Term, Term, Term], 1),
+        SigmaRule::SndCong => signed("snd.cong", &[Context, Term, Term, Term, Term], 1),
+        SigmaRule::SigBeta1 => signed("sig.beta1", &[Context, Term, Term, Term, Term], 3),
+        SigmaRule::SigBeta2 => signed("sig.beta2", &[Context, Term, Term, Term, Term], 3),
+        SigmaRule::SigEta => signed("sig.eta", &[Context, Term, Term, Term, Term], 4),
+    }
+}
+
+fn path_signature(rule: PathRule) -> Signature
+    ensures { Shows (path_signature rule) result }
+{
+    match rule {
+        PathRule::PathTy => signed("path.ty", &[Context, Term, Term, Term], 3),
+        PathRule::PathU => signed("path.u", &[Context, Term, Term, Term], 3),
+        PathRule::PathTyCong => signed(
+            "path.tycong",
+            &[Context, Term, Term, Term, Term, Term, Term],
+            3,
+        ),
+        PathRule::PathUCong => signed(
+            "path.ucong",
+            &[Context, Term, Term, Term, Term, Term, Term],
+            3,
+        ),
+        PathRule::PLam => signed("plam", &[Context, Term, Term, Term, Term], 3),
+        PathRule::PathLeft => signed("path.left", &[Context, Term, Term, Term, Term], 1),
+        PathRule::PathRight => signed("path.right", &[Context, Term, Term, Term, Term], 1),
+        PathRule::PathEta => signed("path.eta", &[Context, Term, Term, Term, Term, Term], 3),
     }
 }
 
@@ -82,6 +175,15 @@ fn nat_signature(rule: NatRule) -> Signature
         NatRule::NatU => signed("nat.u", &[Context], 1),
         NatRule::Zero => signed("zero", &[Context], 1),
         NatRule::Suc => signed("suc", &[Context, Term], 1),
+        NatRule::SucCong => signed("suc.cong", &[Context, Term, Term], 1),
+        NatRule::NatRec => signed("natrec", &[Context, Term, Term, Term, Term], 4),
+        NatRule::NatRecCong => signed(
+            "natrec.cong",
+            &[Context, Term, Term, Term, Term, Term, Term, Term, Term],
+            4,
+        ),
+        NatRule::NatRecZero => signed("natrec.zero", &[Context, Term, Term, Term], 3),
+        NatRule::NatRecSuc => signed("natrec.suc", &[Context, Term, Term, Term, Term], 4),
     }
 }
 
@@ -91,9 +193,12 @@ pub fn signature_of(rule: RuleName) -> Signature
 {
     match rule {
         RuleName::Contexts(rule) => context_signature(rule),
-        RuleName::Substitution(rule) => substitution_signature(rule),
+        RuleName::Instances(rule) => instance_signature(rule),
+        RuleName::Equality(rule) => equality_signature(rule),
         RuleName::Universe(rule) => universe_signature(rule),
         RuleName::Pi(rule) => pi_signature(rule),
+        RuleName::Sigma(rule) => sigma_signature(rule),
+        RuleName::Paths(rule) => path_signature(rule),
         RuleName::Naturals(rule) => nat_signature(rule),
     }
 }

@@ -1,8 +1,9 @@
 //! What files say of each rule, and what a name finds in each version.
 
 use crate::{
-    ContextRule, NatRule, Op, PartKind, PiRule, RuleName, SubstitutionRule, UniverseRule,
-    count_parts, count_premises, op_of, part_kind, part_kinds, rule_name, rule_of,
+    ContextRule, EqualityRule, InstanceRule, NatRule, Op, PartKind, PathRule, PiRule, RuleName,
+    SigmaRule, UniverseRule, count_parts, count_premises, op_of, part_kind, part_kinds, rule_name,
+    rule_of,
 };
 use PartKind::{Context, Subst, Term};
 
@@ -33,7 +34,7 @@ fn names_find_operators(rt: HostRuntime) {
 }
 
 // A rule of each family with its name, the kinds of its parts and the number of its premises.
-const RULES: [(RuleName, &[u8], &[PartKind], u8); 6] = [
+const RULES: [(RuleName, &[u8], &[PartKind], u8); 9] = [
     (RuleName::Contexts(ContextRule::CtxNil), b"ctx.nil", &[], 0),
     (
         RuleName::Contexts(ContextRule::SubVar),
@@ -42,10 +43,16 @@ const RULES: [(RuleName, &[u8], &[PartKind], u8); 6] = [
         3,
     ),
     (
-        RuleName::Substitution(SubstitutionRule::TmVar),
+        RuleName::Instances(InstanceRule::TmVar),
         b"tm.var",
         &[Context, Term],
         1,
+    ),
+    (
+        RuleName::Equality(EqualityRule::TmEqTrans),
+        b"tmeq.trans",
+        &[Context, Term, Term, Term, Term],
+        2,
     ),
     (
         RuleName::Universe(UniverseRule::TyU),
@@ -58,6 +65,18 @@ const RULES: [(RuleName, &[u8], &[PartKind], u8); 6] = [
         b"app",
         &[Context, Term, Term, Term, Term],
         2,
+    ),
+    (
+        RuleName::Sigma(SigmaRule::SigEta),
+        b"sig.eta",
+        &[Context, Term, Term, Term, Term],
+        4,
+    ),
+    (
+        RuleName::Paths(PathRule::PathRight),
+        b"path.right",
+        &[Context, Term, Term, Term, Term],
+        1,
     ),
     (
         RuleName::Naturals(NatRule::Suc),
@@ -88,7 +107,7 @@ fn other_names_find_no_rule(rt: HostRuntime) {
         ("suc", 0),
         ("ctx.nil", 0),
         ("ctx", 1),
-        ("ctx.name", 1),
+        ("ctx.names", 1),
         ("pi", 1),
         ("zzz", 1),
         ("suc.u", 1),

@@ -3,13 +3,13 @@
 ghost use Rattle.theory.specs.declared.rule.RuleName.TheVariants.{Contexts};
 ghost use Rattle.rules.specs.Schemas.{Means};
 
-use super::{A1, A3, A4, D1, G, G2, H, ID, UP};
-use crate::instruction::Instruction::{CtxNil, CtxVar, Instance, Push, Then};
+use super::named::{A1, A3, A4, D1, D3, E1, G0, G2, G4, H0, H2, ID, K0, UP};
+use crate::instruction::Instruction::{CtxName, CtxNil, CtxVar, Instance, Push, Then};
 use crate::program::Program::{Ctx, Sb, Tm, Ty};
 use crate::program::Schema;
 use theory::ContextRule;
 
-/// The programs of a rule that concludes a context or a substitution.
+/// The programs of a rule of this family.
 pub fn context_schema(rule: ContextRule) -> Schema
     ensures { Means (Contexts rule) result }
 {
@@ -20,28 +20,43 @@ pub fn context_schema(rule: ContextRule) -> Schema
             gives: Ctx(&[CtxNil]),
         },
         ContextRule::CtxVar => Schema {
-            wants: &[Ty(&[G], &[A1])],
+            wants: &[Ty(&[G0], &[A1])],
             sides: &[],
-            gives: Ctx(&[CtxVar, G, A1]),
+            gives: Ctx(&[CtxVar, G0, A1]),
+        },
+        ContextRule::CtxName => Schema {
+            wants: &[Ctx(&[G0])],
+            sides: &[],
+            gives: Ctx(&[CtxName, G0]),
         },
         ContextRule::SubId => Schema {
-            wants: &[Ctx(&[G])],
+            wants: &[Ctx(&[G0])],
             sides: &[],
-            gives: Sb(&[G], &[ID], &[G]),
+            gives: Sb(&[G0], &[ID], &[G0]),
         },
         ContextRule::SubWk => Schema {
-            wants: &[Sb(&[H], &[D1], &[G2]), Ty(&[H], &[A3])],
+            wants: &[Sb(&[H0], &[D1], &[G2]), Ty(&[H0], &[A3])],
             sides: &[],
-            gives: Sb(&[CtxVar, H, A3], &[Then, D1, UP], &[G2]),
+            gives: Sb(&[CtxVar, H0, A3], &[Then, D1, UP], &[G2]),
+        },
+        ContextRule::SubWkName => Schema {
+            wants: &[Sb(&[H0], &[D1], &[G2])],
+            sides: &[],
+            gives: Sb(&[CtxName, H0], &[Then, D1, UP], &[G2]),
         },
         ContextRule::SubVar => Schema {
             wants: &[
-                Sb(&[H], &[D1], &[G2]),
+                Sb(&[H0], &[D1], &[G2]),
                 Ty(&[G2], &[A3]),
-                Tm(&[H], &[A4], &[Instance, A3, D1]),
+                Tm(&[H0], &[A4], &[Instance, A3, D1]),
             ],
             sides: &[],
-            gives: Sb(&[H], &[Push, D1, A4], &[CtxVar, G2, A3]),
+            gives: Sb(&[H0], &[Push, D1, A4], &[CtxVar, G2, A3]),
+        },
+        ContextRule::SubComp => Schema {
+            wants: &[Sb(&[K0], &[E1], &[H2]), Sb(&[H2], &[D3], &[G4])],
+            sides: &[],
+            gives: Sb(&[K0], &[Then, D3, E1], &[G4]),
         },
     }
 }

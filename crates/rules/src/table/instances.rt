@@ -1,33 +1,75 @@
 //! The rules that apply a substitution, and that of the variable.
 
-ghost use Rattle.theory.specs.declared.rule.RuleName.TheVariants.{Substitution};
+ghost use Rattle.theory.specs.declared.rule.RuleName.TheVariants.{Instances};
 ghost use Rattle.rules.specs.Schemas.{Means};
 
-use super::{A1, A3, A4, D1, G, G2, H, UP};
-use crate::instruction::Instruction::{CtxVar, Instance, Var};
-use crate::program::Program::{Sb, Tm, Ty};
+use super::named::{A1, A3, A4, A5, B4, B5, B6, B7, C6, D1, G0, G2, H0, UP};
+use crate::instruction::Instruction::{CtxVar, Instance, Push, Var};
+use crate::program::Program::{Sb, Tm, TmEq, Ty, TyEq};
 use crate::program::Schema;
-use theory::SubstitutionRule;
+use theory::InstanceRule;
 
-/// The programs of a rule that applies a substitution, and of that of the variable.
-pub fn substitution_schema(rule: SubstitutionRule) -> Schema
-    ensures { Means (Substitution rule) result }
+/// The programs of a rule of this family.
+pub fn instance_schema(rule: InstanceRule) -> Schema
+    ensures { Means (Instances rule) result }
 {
     match rule {
-        SubstitutionRule::TySub => Schema {
-            wants: &[Sb(&[H], &[D1], &[G2]), Ty(&[G2], &[A3])],
+        InstanceRule::TySub => Schema {
+            wants: &[Sb(&[H0], &[D1], &[G2]), Ty(&[G2], &[A3])],
             sides: &[],
-            gives: Ty(&[H], &[Instance, A3, D1]),
+            gives: Ty(&[H0], &[Instance, A3, D1]),
         },
-        SubstitutionRule::TmSub => Schema {
-            wants: &[Sb(&[H], &[D1], &[G2]), Tm(&[G2], &[A3], &[A4])],
+        InstanceRule::TyEqSub => Schema {
+            wants: &[Sb(&[H0], &[D1], &[G2]), TyEq(&[G2], &[A3], &[B4])],
             sides: &[],
-            gives: Tm(&[H], &[Instance, A3, D1], &[Instance, A4, D1]),
+            gives: TyEq(&[H0], &[Instance, A3, D1], &[Instance, B4, D1]),
         },
-        SubstitutionRule::TmVar => Schema {
-            wants: &[Ty(&[G], &[A1])],
+        InstanceRule::TmSub => Schema {
+            wants: &[Sb(&[H0], &[D1], &[G2]), Tm(&[G2], &[A3], &[A4])],
             sides: &[],
-            gives: Tm(&[CtxVar, G, A1], &[Var(0)], &[Instance, A1, UP]),
+            gives: Tm(&[H0], &[Instance, A3, D1], &[Instance, A4, D1]),
+        },
+        InstanceRule::TmEqSub => Schema {
+            wants: &[Sb(&[H0], &[D1], &[G2]), TmEq(&[G2], &[A3], &[B4], &[A5])],
+            sides: &[],
+            gives: TmEq(
+                &[H0],
+                &[Instance, A3, D1],
+                &[Instance, B4, D1],
+                &[Instance, A5, D1],
+            ),
+        },
+        InstanceRule::TyCong => Schema {
+            wants: &[
+                Sb(&[H0], &[D1], &[G2]),
+                Ty(&[CtxVar, G2, A3], &[B6]),
+                TmEq(&[H0], &[A4], &[B5], &[Instance, A3, D1]),
+            ],
+            sides: &[],
+            gives: TyEq(
+                &[H0],
+                &[Instance, B6, Push, D1, A4],
+                &[Instance, B6, Push, D1, B5],
+            ),
+        },
+        InstanceRule::TmCong => Schema {
+            wants: &[
+                Sb(&[H0], &[D1], &[G2]),
+                Tm(&[CtxVar, G2, A3], &[C6], &[B7]),
+                TmEq(&[H0], &[A4], &[B5], &[Instance, A3, D1]),
+            ],
+            sides: &[],
+            gives: TmEq(
+                &[H0],
+                &[Instance, C6, Push, D1, A4],
+                &[Instance, C6, Push, D1, B5],
+                &[Instance, B7, Push, D1, A4],
+            ),
+        },
+        InstanceRule::TmVar => Schema {
+            wants: &[Ty(&[G0], &[A1])],
+            sides: &[],
+            gives: Tm(&[CtxVar, G0, A1], &[Var(0)], &[Instance, A1, UP]),
         },
     }
 }

@@ -1,7 +1,5 @@
-use Rattle.std.proofs.Common.{◌<◌, ◌^◌, length, arith}
-use Rattle.rows.specs.Held.{thing_of}
+use Rattle.std.proofs.Common.{length}
 use Rattle.rows.specs.Shown.{things, store_means}
-use Rattle.rows.proofs.TableLaws.{length-built}
 use Rattle.rows.proofs.StoreLaws.{then_size, both-within}
 use Rattle.rows.proofs.store.RowStoreMaker.then.Goals as goal
 
@@ -9,5 +7,4 @@ pub add_sub-requires-clause-size : goal.add_sub-requires-clause-size
 add_sub-requires-clause-size c =
     let s = c.args.self.now in
     let within = both-within (things s) c.args.first c.args.second c.requires.kinds in
-    let few : length (things s) < 2 ^ 64 = omega (arith, length-built (thing_of s.kids.items s.subs.items) s.rows.items, s.rows.ok.0) in
-    then_size c.args.first c.args.second (length (things s)) (store_means s c.args.first) (store_means s c.args.second) c.sub.result.size c.sub-2.result.size c.then-size.result within.0 within.1 few c.requires.first c.sub.ensures.size c.sub-2.ensures.size c.then-size.ensures.pushed c.then-size.ensures.shift
+    then_size c.args.first c.args.second (length (things s)) (store_means s c.args.first) (store_means s c.args.second) c.sub.result.size c.sub-2.result.size c.then-size.result within.0 within.1 c.ranges.second.fits c.requires.first c.sub.ensures.size c.sub-2.ensures.size c.then-size.ensures.pushed c.then-size.ensures.shift
