@@ -1,0 +1,50 @@
+use Rattle.std.proofs.Common.{◌∙◌, refl, sym, ap, subst, length, arith}
+use Rattle.interned.specs.Shown.{rows_mean}
+use Rattle.book.specs.Right.{AreRight}
+use Rattle.book.specs.Shown.{book_means, book_concludes}
+use Rattle.book.proofs.NodeLaws.{few_cells, use-counts, nodes-kept, nodes-added}
+use Rattle.book.proofs.BookLaws.{right-concluded, extends-along, interned-grows, grows-equal}
+use Rattle.book.proofs.kernel.Book.conclude.Goals as goal
+
+pub invariant_of-self : goal.invariant_of-self
+invariant_of-self c = nodes-kept (rows_mean c.self.inside.rows) (rows_mean c.concluded.new.maker) c.self.inside.nodes.rows c.concluded.ensures.kept c.self.invariant
+
+pub returns-in_err-claim-clause-extends : goal.returns-in_err-claim-clause-extends
+returns-in_err-claim-clause-extends c = extends-along _ _ _ c.self.view_is c.concluded.ensures.kept (grows-equal c.self.inside.nodes.rows c.self.inside.nodes.rows refl)
+
+pub node_words-words-requires-clause-count : goal.node_words-words-requires-clause-count
+node_words-words-requires-clause-count c =
+    let b = c.args.self.now in
+    let step = c.args.step.now in
+    ap length c.as_slice-parts.ensures.value
+    ∙ (use-counts (book_means b) (book_concludes b) step.rule step.parts step.premises c.requires.right.0 c.requires.right.1).0
+
+pub node_words-words-requires-clause-few : goal.node_words-words-requires-clause-few
+node_words-words-requires-clause-few c =
+    let b = c.args.self.now in
+    let step = c.args.step.now in
+    let counts = use-counts (book_means b) (book_concludes b) step.rule step.parts step.premises c.requires.right.0 c.requires.right.1 in
+    omega (arith, ap length c.as_slice-parts.ensures.value, ap length c.as_slice.ensures.value, counts.0, counts.1, few_cells step.rule)
+
+pub invariant_of-self-in_err-at : goal.invariant_of-self-in_err-at
+invariant_of-self-in_err-at c =
+    let g = rows_mean c.concluded.new.maker in
+    subst (AreRight g) (sym c.in_err-at.ensures.err)
+    (nodes-kept (rows_mean c.self.inside.rows) g c.self.inside.nodes.rows c.concluded.ensures.kept c.self.invariant)
+
+pub returns-in_err-at-clause-extends : goal.returns-in_err-at-clause-extends
+returns-in_err-at-clause-extends c = extends-along _ _ _ c.self.view_is c.concluded.ensures.kept (grows-equal _ _ c.in_err-at.ensures.err)
+
+pub invariant_of-self-2 : goal.invariant_of-self-2
+invariant_of-self-2 c =
+    let nodes = c.self.inside.nodes.rows in
+    let g = rows_mean c.concluded.new.maker in
+    let step = c.args.step.now in
+    let new = right-concluded _ _ c.self.view_is g c.concluded.ensures.kept step.rule step.parts step.premises c.requires.right.0 c.requires.right.1 c.as_slice-parts.result.now c.as_slice.result.now c.as_slice-parts.ensures.value c.as_slice.ensures.value c.in_ok-claim.claim c.in_ok-claim.ensures.claim c.node_words-words.result c.as_slice-2.result.now c.node_words-words.ensures c.as_slice-2.ensures.value in
+    nodes-added g nodes c.as_slice-2.result.now c.intern.new.self.rows
+    (nodes-kept (rows_mean c.self.inside.rows) g nodes c.concluded.ensures.kept c.self.invariant) new c.in_ok-at.ensures.new
+
+pub returns-clause-extends : goal.returns-clause-extends
+returns-clause-extends c =
+    extends-along _ _ _ c.self.view_is c.concluded.ensures.kept
+    (interned-grows c.self.inside.nodes.rows c.as_slice-2.result.now c.intern.new.self.rows c.in_ok-at.ensures.new)

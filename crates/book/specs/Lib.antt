@@ -1,0 +1,5 @@
+pub mod Nodes
+pub mod Coded
+pub mod Right
+pub mod Contents
+pub mod Shown

@@ -1,0 +1,199 @@
+//! The book, in which every node is right.
+
+use crate::few::RuleUse;
+use crate::node_words::{NodeCells, claim_of, node_words, read_node};
+use compare::Comparison;
+use interned::InternedRows;
+use region::{Region, RowId};
+use rows::TermId;
+use rules::concluded;
+use std::alloc::{AllocError, Global};
+use std::marker::Model;
+use theory::{Claim, PartKind, RuleName};
+
+/// The number of a node.
+#[derive(Clone, Copy, Debug, PartialEq, Eq, Hash)]
+pub struct NodeId(pub u64);
+
+/// How many rows and how many nodes there are, to go back to.
+#[derive(Clone, Copy, Debug, PartialEq, Eq)]
+pub struct Mark {
+    pub rows: u64,
+    pub nodes: u64,
+}
+
+/// A node as it was made.
+#[derive(Clone, Copy, Debug)]
+pub struct NodeRow<'a> {
+    pub rule: RuleName,
+    pub parts: &'a [u64],
+    pub premises: &'a [u64],
+}
+
+/// The most words of a node.
+const MOST_NODE_WORDS: u64 = 32;
+
+/// Rows and nodes, named by their numbers from 0. Each node is an instance of its rule over earlier
+/// nodes. Equal rows are kept once, and equal nodes too. What rows mean and nodes conclude stays,
+/// after out of memory too.
+#[derive(Drop)]
+pub struct Book {
+    alloc: Global,
+    pub(crate) rows: InternedRows,
+    pub(crate) nodes: Region,
+}
+
+impl Model for Book {
+    ghost use Rattle.std.specs.Prelude.{◌/◌, min};
+    ghost use Rattle.book.specs.Contents.{Contents};
+
+    ghost Value = { Contents };
+
+    ghost use Rattle.interned.specs.Shown.{rows_mean, rows_spare};
+    ghost use Rattle.book.specs.Right.{AreRight};
+
+    ghost view = { λ b. record {
+      rows = b.rows.region.rows;
+      nodes = b.nodes.rows;
+      spare = min (rows_spare b.rows) (min b.nodes.spare_rows (b.nodes.spare_words / 32));
+    } };
+
+    ghost invariant = { λ b. AreRight (rows_mean b.rows) b.nodes.rows };
+}
+
+impl Book {
+    ghost use Rattle.std.specs.Prelude.{◌≡◌, ◌↔◌, ◌≤◌, ◌+◌, ℕ, None, Some, IfOk, OnOk, IsOk};
+    ghost use Rattle.std.specs.Prelude.{IsSome, IsTrue, length};
+    ghost use Rattle.trees.specs.Judgements.{Judgement};
+    ghost use Rattle.trees.specs.Things.{meanings};
+    ghost use Rattle.trees.specs.Claimed.{claimed};
+    ghost use Rattle.rows.specs.Views.{IsTree};
+    ghost use Rattle.rules.specs.Schemas.{most_rows};
+    ghost use Rattle.rules.specs.Shifts.{ShiftsFit};
+    ghost use Rattle.book.specs.Nodes.{places_of};
+    ghost use Rattle.book.specs.Coded.{node_shown};
+    ghost use Rattle.book.specs.Right.{IsUse, IsMadeBy};
+    ghost use Rattle.book.specs.Shown.{book_means, book_nodes, book_concludes, Extends, IsMark};
+    ghost use Rattle.book.specs.Shown.{Released};
+
+    /// No rows and no nodes.
+    pub fn new(alloc: Global) -> Result<Book, AllocError>
+        ensures rows { IfOk result (λ book. (k : ℕ) → book_means book k ≡ None) }
+        ensures nodes { IfOk result (λ book. (k : ℕ) → book_nodes book k ≡ None) }
+    {
+        Ok(Book {
+            alloc,
+            rows: InternedRows::new(alloc)?,
+            nodes: Region::new(alloc)?,
+        })
+    }
+
+    /// Concludes a rule: a node with its conclusion. What the parts mean and the premises conclude
+    /// is an instance of the rule, and the shifts of the substitutions among the parts are those
+    /// that `then` takes. It adds a node at most, and fewer rows than `most_rows`.
+    ///
+    /// # Errors
+    /// Only where memory runs out that the spare does not cover.
+    pub fn conclude(&mut self, step: &RuleUse) -> Result<NodeId, AllocError>
+        requires right { (J : Judgement) × IsUse (book_means self.old) (book_concludes self.old)
+            step.now.rule step.now.parts step.now.premises J }
+        requires shifts { ShiftsFit (meanings (book_means self.old) step.now.parts) }
+        ensures covered { most_rows step.now.rule ≤ self.old.spare → IsOk result }
+        ensures spends { self.old.spare ≤ self.new.spare + most_rows step.now.rule }
+        ensures extends { Extends self.old self.new }
+        ensures concludes { IfOk result (λ node. (J : Judgement) →
+            IsUse (book_means self.old) (book_concludes self.old)
+            step.now.rule step.now.parts step.now.premises J →
+            book_concludes self.new node.0 ≡ Some J) }
+        ensures made { IfOk result (λ node.
+            IsMadeBy step.now.rule step.now.parts step.now.premises (book_nodes self.new node.0)) }
+    {
+        let parts = step.parts.as_slice();
+        let claim = concluded(&mut self.rows, step.rule, parts)?;
+        let words = node_words(step.rule, claim, parts, step.premises.as_slice());
+        let RowId(at) = self.nodes.intern(words.as_slice())?;
+        Ok(NodeId(at))
+    }
+
+    /// The node, as its words say it.
+    fn cells(&self, node: NodeId) -> NodeCells<'_>
+        requires { IsSome (book_nodes self.now node.0) }
+        ensures node { book_nodes self.now node.0 ≡ Some (node_shown result) }
+        ensures count { length result.claimed.now ≡ places_of result.form }
+    {
+        read_node(self.nodes.row(RowId(node.0)))
+    }
+
+    /// The conclusion of a node.
+    pub fn conclusion(&self, node: NodeId) -> Claim
+        requires { IsSome (book_nodes self.now node.0) }
+        ensures { claimed (book_means self.now) result ≡ book_concludes self.now node.0 }
+    {
+        let cells = self.cells(node);
+        claim_of(cells.form, cells.claimed)
+    }
+
+    /// A node as it was made.
+    pub fn step(&self, node: NodeId) -> NodeRow<'_>
+        requires { IsSome (book_nodes self.now node.0) }
+        ensures { let made = book_nodes self.now node.0 in
+            IsMadeBy result.rule result.parts.now result.premises.now made }
+    {
+        let NodeCells {
+            rule,
+            parts,
+            premises,
+            ..
+        } = self.cells(node);
+        NodeRow {
+            rule,
+            parts,
+            premises,
+        }
+    }
+
+    /// Whether two rows mean the same tree.
+    pub fn same_tree(&self, left: TermId, right: TermId) -> Result<bool, AllocError>
+        requires left { IsTree (book_means self.now left.0) }
+        requires right { IsTree (book_means self.now right.0) }
+        ensures { let f = book_means self.now in
+            IfOk result (λ same. IsTrue same ↔ (f left.0 ≡ f right.0)) }
+    {
+        let mut comparison = Comparison::new(self.alloc);
+        Ok(comparison.same(&self.rows, PartKind::Term, left.0, right.0)?)
+    }
+
+    /// Room for so many more rows and nodes. After an error the book is as before, and the room is
+    /// not less.
+    pub fn reserve(&mut self, rows: u64) -> Result<(), AllocError>
+        ensures ok { OnOk result (rows ≤ self.new.spare) }
+        ensures kept { self.old.spare ≤ self.new.spare }
+        ensures extends { Extends self.old self.new }
+        ensures same { Extends self.new self.old }
+    {
+        let Some(words) = rows.checked_mul(MOST_NODE_WORDS) else {
+            return Err(AllocError);
+        };
+        self.rows.reserve(rows)?;
+        Ok(self.nodes.reserve(rows, words)?)
+    }
+
+    /// How many rows and nodes there are, to go back to.
+    pub fn mark(&self) -> Mark
+        ensures { IsMark self.now result }
+    {
+        let rows = self.rows.len();
+        let nodes = self.nodes.len();
+        Mark { rows, nodes }
+    }
+
+    /// Only the rows and the nodes of the mark stay, and the room is not less.
+    pub fn release(&mut self, mark: Mark)
+        requires { IsMark self.old mark }
+        ensures released { Released self.old self.new mark }
+        ensures kept { self.old.spare ≤ self.new.spare }
+    {
+        self.rows.release(region::Mark(mark.rows));
+        self.nodes.release(region::Mark(mark.nodes));
+    }
+}

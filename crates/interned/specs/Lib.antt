@@ -1,0 +1,4 @@
+pub mod Heads
+pub mod Coding
+pub mod Coded
+pub mod Shown
