@@ -1,29 +1,28 @@
 -- What a book's nodes are after a rule is concluded, that they are provable, and the first of them.
-use Rattle.std.proofs.Common.{◌≡◌, ℕ, zero, suc, ◌+◌, ◌-◌, ◌<◌, ◌≤◌, inl, inr, List, [], ◌∷◌, ◌++◌, length, take, refl, sym, ◌∙◌, ap, subst, arith, Option, Some, None, IsSome, length-append}
+use Rattle.std.proofs.Common.{◌≡◌, ℕ, zero, suc, ◌<◌, ◌≤◌, inl, inr, List, [], ◌∷◌, ◌++◌, length, refl, sym, ◌∙◌, ap, subst, arith, Option, Some, length-append}
 use Rattle.std.specs.Prelude.{slice_get, option_and_then}
-use Rattle.std.specs.List.{All, Contains}
+use Rattle.std.specs.List.{All}
 use Rattle.std.proofs.lemmas.List.{append-nil}
 use Rattle.std.proofs.lemmas.Option.{slice_get_within}
-use Rattle.std.proofs.lemmas.List.Elements.{All-nil, All-cons, All-head, All-tail, All-contains, All-append}
+use Rattle.std.proofs.lemmas.List.Elements.{All-nil, All-cons, All-head, All-tail, All-contains}
 use Rattle.theory.specs.declared.rule.RuleName.{RuleName}
 use Rattle.trees.specs.declared.claim.Claim.{Claim}
-use Rattle.trees.specs.Judgements.{Judgement, TreeRule}
+use Rattle.trees.specs.Judgements.{Judgement}
 use Rattle.trees.specs.Things.{Thing, Meanings, Kept, meanings}
-use Rattle.trees.specs.Claims.{form_of, rows_of}
-use Rattle.trees.specs.Claimed.{judged, claimed}
+use Rattle.trees.specs.Claimed.{claimed}
 use Rattle.trees.proofs.Meanings.{meanings-cons}
 use Rattle.region.specs.Held.{IsInterned}
 use Rattle.rows.specs.Tables.{Grows}
 use Rattle.rows.proofs.OptionLaws.{one-some}
-use Rattle.rows.proofs.TableLaws.{slice_get-prefix, slice_get-same, grows-same, length-built}
+use Rattle.rows.proofs.TableLaws.{grows-same, length-built}
 use Rattle.rules.specs.Claims.{rule_over, conclusion_of}
+use Rattle.derivation.specs.Derivations.{Provable, by_rule}
 use Rattle.interned.specs.Coded.{thing_of, things_coded}
 use Rattle.book.specs.Contents.{Contents}
-use Rattle.book.specs.declared.kernel.Mark.{Mark}
 use Rattle.book.specs.Nodes.{Node, node_coded, node_at, judgement_of, concluded}
 use Rattle.book.specs.Coded.{node_from}
 use Rattle.book.specs.Right.{IsUse, IsRight, AreRight}
-use Rattle.book.specs.Shown.{book_means, book_concludes, IsMark, Extends}
+use Rattle.book.specs.Shown.{book_means, book_concludes, Extends}
 use Rattle.book.proofs.NodeLaws.{use-kept, concluded-kept, node_at-prefix}
 
 -- what a use of a rule concludes
@@ -58,6 +57,38 @@ right-concluded b old is g kept rule parts premises J u ps qs same_parts same_pr
     let here : IsUse f (concluded f old.nodes) rule parts premises J = subst (λ (d : Contents). IsUse (book_means d) (book_concludes d) rule parts premises J) (sym is) u in
     let this : IsUse f (concluded f old.nodes) rule ps qs J = subst (λ xs. IsUse f (concluded f old.nodes) rule xs qs J) (sym same_parts) (subst (λ ys. IsUse f (concluded f old.nodes) rule parts ys J) (sym same_premises) here) in
     right-new f g old.nodes kept rule ps qs J this c row says (ap node_coded same_words ∙ coded)
+
+-- every node is provable
+
+provable-each : (f : Meanings) (nodes : List (List ℕ)) (k : ℕ) (ks : List ℕ) (Js : List Judgement) → All (λ j. j < k) ks → meanings (concluded f nodes) ks ≡ Some Js → ((j : ℕ) → j < k → (K : Judgement) → concluded f nodes j ≡ Some K → Provable K) → All Provable Js
+provable-each f nodes k [] [] below e each = All-nil Provable
+provable-each f nodes k [] (J ∷ Js) below e each = cc
+provable-each f nodes k (j ∷ ks) Js below e each =
+    let m = meanings-cons (concluded f nodes) j ks Js e in
+    subst (All Provable) (sym m.whole)
+    (All-cons Provable m.first m.rest (each j (All-head (λ i. i < k) j ks below) m.first m.first_is)
+    (provable-each f nodes k ks m.rest (All-tail (λ i. i < k) j ks below) m.rest_is each))
+
+provable-below : (f : Meanings) (nodes : List (List ℕ)) → AreRight f nodes → (n k : ℕ) → k < n → (J : Judgement) → concluded f nodes k ≡ Some J → Provable J
+provable-below f nodes h zero k lt J e = absurd (omega arith)
+provable-below f nodes h (suc n) k lt J e =
+    let o = one-some (judgement_of f) (node_at nodes k) J e in
+    let w = one-some node_coded (slice_get nodes k) o.first o.first_is in
+    let r = h.each k w.first w.first_is in
+    let is = r.is in
+    let whole = w.whole in
+    let same : r.node ≡ o.first = cc in
+    let says : judgement_of f r.node ≡ Some J = ap (judgement_of f) same ∙ o.whole in
+    let concludes = r.concludes in
+    let J_is : r.judgement ≡ J = cc in
+    let u = r.use_is in
+    subst Provable J_is
+    (by_rule r.node.rule u.things u.judgements r.judgement u.instance
+    (λ K among. All-contains Provable u.judgements K
+    (provable-each f nodes k r.node.premises u.judgements r.earlier u.premises_are (λ j below. provable-below f nodes h n j (omega arith))) among))
+
+pub nodes-provable : (f : Meanings) (nodes : List (List ℕ)) → AreRight f nodes → (k : ℕ) (J : Judgement) → concluded f nodes k ≡ Some J → Provable J
+nodes-provable f nodes h k = provable-below f nodes h (suc k) k (omega arith)
 
 -- a book that has grown
 

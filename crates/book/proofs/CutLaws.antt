@@ -1,11 +1,10 @@
 -- The first rows and nodes of a book, which name no others.
-use Rattle.std.proofs.Common.{◌≡◌, ℕ, zero, suc, ◌+◌, ◌<◌, ◌≤◌, List, [], ◌∷◌, length, take, refl, sym, ◌∙◌, ap, ap₂, subst, arith, Option, Some, None}
+use Rattle.std.proofs.Common.{◌≡◌, ℕ, zero, suc, ◌<◌, ◌≤◌, List, [], ◌∷◌, length, take, refl, sym, ◌∙◌, ap, ap₂, subst, arith, Option, Some, None}
 use Rattle.std.specs.Prelude.{slice_get, option_and_then}
 use Rattle.std.specs.List.{All}
 use Rattle.std.proofs.lemmas.Option.{slice_get_within}
 use Rattle.std.proofs.lemmas.List.{take-take}
 use Rattle.std.proofs.lemmas.List.Elements.{All-nil, All-cons, All-head, All-tail, All-weaker}
-use Rattle.trees.specs.Judgements.{Judgement}
 use Rattle.trees.specs.Things.{Thing, Meanings, both, consed, meanings}
 use Rattle.trees.specs.Claimed.{judged, said}
 use Rattle.trees.proofs.Meanings.{meanings-cons}
@@ -15,7 +14,7 @@ use Rattle.interned.specs.Coded.{thing_of, things_coded}
 use Rattle.book.specs.Contents.{Contents}
 use Rattle.book.specs.declared.kernel.Mark.{Mark}
 use Rattle.book.specs.Nodes.{Node, node_coded, node_at, judgement_of, concluded}
-use Rattle.book.specs.Right.{IsUse, IsRight, AreRight}
+use Rattle.book.specs.Right.{IsRight, AreRight}
 use Rattle.book.specs.Shown.{NamesBelow, IsMark, Released}
 
 pub slice_get-first : {X : Type 0} (n k : ℕ) (xs : List X) → k < n → slice_get (take n xs) k ≡ slice_get xs k

@@ -1,11 +1,11 @@
 -- Nodes in words, and what stays of them as rows and nodes come in.
-use Rattle.std.proofs.Common.{◌≡◌, ℕ, zero, suc, ◌+◌, ◌<◌, ◌≤◌, nat_le, ◌⊎◌, inl, inr, Bool, true, false, cond, ◌&&◌, List, [], ◌∷◌, ◌++◌, length, take, drop, refl, sym, ◌∙◌, ap, ap₂, subst, arith, Option, Some, None, IsSome, append_assoc, length-append}
-use Rattle.std.specs.Prelude.{slice_get, option_and_then}
-use Rattle.std.specs.List.{All, list_all, Contains}
+use Rattle.std.proofs.Common.{◌≡◌, ℕ, zero, suc, ◌+◌, ◌<◌, ◌≤◌, nat_le, inl, inr, Bool, true, false, cond, List, [], ◌∷◌, ◌++◌, length, take, drop, refl, sym, ◌∙◌, ap, ap₂, subst, arith, Option, Some, None}
+use Rattle.std.specs.Prelude.{slice_get, slice_index_or, option_and_then}
+use Rattle.std.proofs.lemmas.Option.{slice_get_within}
+use Rattle.std.specs.List.{All, list_all}
 use Rattle.std.specs.Str.{bytes_eq}
 use Rattle.std.proofs.lemmas.Bool.{and_parts, leb-true}
 use Rattle.std.proofs.lemmas.List.{append-nil, length-map}
-use Rattle.std.proofs.lemmas.List.Elements.{All-nil, All-cons, All-head, All-tail, All-weaker, All-contains}
 use Rattle.theory.specs.declared.rule.RuleName.{RuleName}
 use Rattle.theory.specs.declared.rule.TheConstants.{RULES}
 use Rattle.theory.specs.RuleNames.{kinds_of, premises_of, name_of}
@@ -25,12 +25,11 @@ use Rattle.trees.proofs.Meanings.{meanings-cons, meanings-kept, meanings-length,
 use Rattle.region.specs.Held.{IsInterned}
 use Rattle.rows.proofs.OptionLaws.{one-some, both-some}
 use Rattle.rows.proofs.TableLaws.{slice_get-prefix, slice_get-push, take-prefix}
-use Rattle.rules.specs.Rules.{rule_at}
 use Rattle.rules.proofs.TableLaws.{wants-count, rule_kinds}
 use Rattle.book.specs.declared.node_words.TheConstants.{FORMS}
 use Rattle.book.specs.Nodes.{Node, places_of, node_of, node_coded, node_at, judgement_of, concluded}
 use Rattle.book.specs.Coded.{node_from, IsWhole}
-use Rattle.book.specs.Right.{IsUse, IsMadeBy, IsRight, AreRight}
+use Rattle.book.specs.Right.{IsUse, IsRight, AreRight}
 
 -- a node fits its words
 
@@ -115,6 +114,29 @@ reads-coded (r ∷ j ∷ cells) node e =
     form_in d None = d
     form_in d (Some n) = n.form
 
+-- the first word of a node is the number of a rule
+pub rule-within : (words : List ℕ) (node : Node) → node_coded words ≡ Some node → slice_index_or words 0 0 < length RULES.now
+rule-within words node e =
+    let r = reads-coded words node e in
+    rw (r.is) (slice_get_within RULES.now r.rule_word node.rule r.rule_is)
+
+-- and the second that of a form
+pub form-within : (words : List ℕ) (node : Node) → node_coded words ≡ Some node → slice_index_or words 1 0 < length FORMS
+form-within words node e =
+    let r = reads-coded words node e in
+    rw (r.is) (slice_get_within FORMS r.form_word node.form r.form_is)
+
+-- a node whose parts are cut from its words
+pub node-read : (words : List ℕ) (node : Node) → node_coded words ≡ Some node → (rule : RuleName) (f : JudgementForm) (claimed parts premises : List ℕ)
+    → slice_get RULES.now (slice_index_or words 0 0) ≡ Some rule → slice_get FORMS (slice_index_or words 1 0) ≡ Some f
+    → claimed ≡ take (places_of f) (drop 2 words)
+    → parts ≡ take (length (kinds_of rule)) (drop (places_of f) (drop 2 words))
+    → premises ≡ drop (length (kinds_of rule)) (drop (places_of f) (drop 2 words))
+    → node_coded words ≡ Some (record { rule = rule; form = f; claimed = claimed; parts = parts; premises = premises })
+node-read [] node e rule f claimed parts premises is_rule is_form c p q = cc
+node-read (r ∷ []) node e rule f claimed parts premises is_rule is_form c p q = cc
+node-read (r ∷ j ∷ cells) node e rule f claimed parts premises is_rule is_form c p q = rw (is_rule, is_form, c, p, q) refl
+
 -- Of each form by computation.
 pub form_at : (f : JudgementForm) → slice_get FORMS (tag_of the_type f) ≡ Some f
 form_at form.Ctx = refl
@@ -175,6 +197,23 @@ whole-right f nodes k words r =
 
     taken : (cells : List ℕ) (node : Node) → node_of cells node.rule node.form ≡ Some node → node_in node (node_of cells node.rule node.form) ≡ node
     taken cells node e = ap (node_in node) e
+
+-- a node that is read: its premises are earlier, and it is a use of its rule
+
+pub read-earlier : (f : Meanings) (nodes : List (List ℕ)) (k : ℕ) (words : List ℕ) → IsRight f nodes k words → (n : Node) → node_coded words ≡ Some n → All (λ j. j < k) n.premises
+read-earlier f nodes k words r n coded =
+    let is = r.is in
+    let same : r.node ≡ n = cc in
+    subst (λ (m : Node). All (λ j. j < k) m.premises) same r.earlier
+
+pub read-use : (f : Meanings) (nodes : List (List ℕ)) (k : ℕ) (words : List ℕ) → slice_get nodes k ≡ Some words → IsRight f nodes k words → (n : Node) → node_coded words ≡ Some n → (J : Judgement) → concluded f nodes k ≡ Some J → IsUse f (concluded f nodes) n.rule n.parts n.premises J
+read-use f nodes k words at r n coded J e =
+    let is = r.is in
+    let same : r.node ≡ n = cc in
+    let concludes : concluded f nodes k ≡ Some r.judgement = rw (at, r.is) r.concludes in
+    let says : r.judgement ≡ J = cc in
+    subst (λ (m : Node). IsUse f (concluded f nodes) m.rule m.parts m.premises J) same
+    (subst (λ K. IsUse f (concluded f nodes) r.node.rule r.node.parts r.node.premises K) says r.use_is)
 
 -- what stays as rows and nodes come in
 

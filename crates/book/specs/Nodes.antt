@@ -1,6 +1,6 @@
 -- Nodes as their words say them: the rule, the form of the conclusion and its rows, the parts and
 -- the premises.
-use Rattle.std.specs.Prelude.{ℕ, List, [], ◌∷◌, take, drop, length, Option, Some, None, slice_get}
+use Rattle.std.specs.Prelude.{ℕ, List, ◌∷◌, take, drop, length, Option, Some, None, slice_get}
 use Rattle.std.specs.Prelude.{option_and_then}
 use Rattle.theory.specs.declared.rule.RuleName.{RuleName}
 use Rattle.theory.specs.declared.rule.TheConstants.{RULES}

@@ -1,5 +1,5 @@
 -- When a rule may be used, and when the nodes of a book are right.
-use Rattle.std.specs.Prelude.{◌≡◌, ◌<◌, ℕ, List, ◌++◌, Option, Some, slice_get}
+use Rattle.std.specs.Prelude.{◌≡◌, ◌<◌, ℕ, List, Option, Some, slice_get}
 use Rattle.std.specs.List.{All}
 use Rattle.theory.specs.declared.rule.RuleName.{RuleName}
 use Rattle.trees.specs.Judgements.{Judgement}

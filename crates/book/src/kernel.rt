@@ -62,14 +62,16 @@ impl Model for Book {
 }
 
 impl Book {
-    ghost use Rattle.std.specs.Prelude.{◌≡◌, ◌↔◌, ◌≤◌, ◌+◌, ℕ, None, Some, IfOk, OnOk, IsOk};
+    ghost use Rattle.std.specs.Prelude.{◌≡◌, ◌↔◌, ◌≤◌, ◌<◌, ◌+◌, ℕ, None, Some, IfOk, OnOk, IsOk};
     ghost use Rattle.std.specs.Prelude.{IsSome, IsTrue, length};
+    ghost use Rattle.std.specs.List.{All};
     ghost use Rattle.trees.specs.Judgements.{Judgement};
     ghost use Rattle.trees.specs.Things.{meanings};
     ghost use Rattle.trees.specs.Claimed.{claimed};
     ghost use Rattle.rows.specs.Views.{IsTree};
     ghost use Rattle.rules.specs.Schemas.{most_rows};
     ghost use Rattle.rules.specs.Shifts.{ShiftsFit};
+    ghost use Rattle.derivation.specs.Derivations.{Provable};
     ghost use Rattle.book.specs.Nodes.{places_of};
     ghost use Rattle.book.specs.Coded.{node_shown};
     ghost use Rattle.book.specs.Right.{IsUse, IsMadeBy};
@@ -120,6 +122,10 @@ impl Book {
         requires { IsSome (book_nodes self.now node.0) }
         ensures node { book_nodes self.now node.0 ≡ Some (node_shown result) }
         ensures count { length result.claimed.now ≡ places_of result.form }
+        ensures earlier { All (λ k. k < node.0) result.premises.now }
+        ensures right { (J : Judgement) → book_concludes self.now node.0 ≡ Some J →
+            IsUse (book_means self.now) (book_concludes self.now)
+            result.rule result.parts.now result.premises.now J }
     {
         read_node(self.nodes.row(RowId(node.0)))
     }
@@ -133,11 +139,15 @@ impl Book {
         claim_of(cells.form, cells.claimed)
     }
 
-    /// A node as it was made.
+    /// A node as it was made: an instance of its rule, over earlier nodes.
     pub fn step(&self, node: NodeId) -> NodeRow<'_>
         requires { IsSome (book_nodes self.now node.0) }
-        ensures { let made = book_nodes self.now node.0 in
+        ensures made { let made = book_nodes self.now node.0 in
             IsMadeBy result.rule result.parts.now result.premises.now made }
+        ensures earlier { All (λ k. k < node.0) result.premises.now }
+        ensures right { (J : Judgement) → book_concludes self.now node.0 ≡ Some J →
+            IsUse (book_means self.now) (book_concludes self.now)
+            result.rule result.parts.now result.premises.now J }
     {
         let NodeCells {
             rule,
@@ -195,5 +205,13 @@ impl Book {
     {
         self.rows.release(region::Mark(mark.rows));
         self.nodes.release(region::Mark(mark.nodes));
+    }
+
+    /// Every node of the book is provable by the rules.
+    pub fn laws_of_nodes(&self)
+        ensures { (k : ℕ) (J : Judgement) →
+            book_concludes self.now k ≡ Some J → Provable J }
+    {
+        let _ = &self.nodes;
     }
 }
