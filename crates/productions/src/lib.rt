@@ -1,7 +1,9 @@
-//! The grammar as a relation by productions, and the states and steps of a parser that is exact for it.
+//! The grammar as a relation by productions, and the states and steps of a parser that is exact for
+//! it.
 //!
-//! Little here runs. `specs/Grammar` says which tokens spell which tree, and `specs/Machine` what a parser keeps, token by
-//! token; the proofs say what tokens complete each state, and the law below follows.
+//! Little here runs. `specs/Grammar` says which tokens spell which tree, and `specs/Machine` what a
+//! parser keeps, token by token; the proofs say what tokens complete each state, and the law below
+//! follows.
 #![tactic(auto)]
 
 mod past;
@@ -12,8 +14,8 @@ ghost use Rattle.productions.specs.Runs.{IsExact};
 
 pub use past::{Past, note};
 
-/// The parser is exact: a run that may end has the only reading of its tokens, and one that stops does so at the first token
-/// with which no text begins.
+/// The parser is exact: a run that may end has the only reading of its tokens, and one that stops
+/// does so at the first token with which no text begins.
 pub fn laws_of_runs()
     ensures of_modules { IsExact IsModule start_module }
     ensures of_expressions { IsExact IsWholeExp start_exp }

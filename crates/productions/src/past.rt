@@ -5,7 +5,8 @@ ghost use Rattle.productions.specs.Grammar.{begin as begins, note as notes, skip
 
 use layout_lexer::Token;
 
-/// What is known after some tokens: where the last one ended, and the first place that is too deep, if there was one.
+/// What is known after some tokens: where the last one ended, and the first place that is too deep,
+/// if there was one.
 #[derive(Clone, Copy)]
 pub struct Past {
     pub end: u32,
