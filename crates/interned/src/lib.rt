@@ -22,3 +22,6 @@ mod words;
 
 pub use interned_rows::InternedRows;
 pub use words::Words;
+
+#[cfg(test)]
+mod tests;

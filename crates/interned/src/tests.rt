@@ -1,0 +1,54 @@
+//! Interned rows as they are made, read, measured and released.
+
+use crate::InternedRows;
+use rows::{CtxId, CtxRow, Maker, Reader, SubId, SubRow, SubSize, TermId, TermRow};
+use std::test::Fail;
+use trees::Op;
+
+#[test]
+fn equal_rows_have_one_number_until_they_are_released(rt: HostRuntime) -> Result<(), Fail> {
+    let mut rows = InternedRows::new(rt.alloc())?;
+    for (index, number) in [(7, 0), (8, 1), (7, 0), (9, 2)] {
+        assert_eq!(rt; rows.var(index)?, number);
+    }
+    assert_eq!(rt; rows.make(Op::Zero, &[])?, 3);
+    assert_eq!(rt; rows.shift(0)?, 4);
+    assert_eq!(rt; rows.shift(0)?, 4);
+    assert_eq!(rt; rows.ctx_nil()?, 5);
+    assert_eq!(rt; rows.len(), 6);
+    let mark = rows.mark();
+    assert_eq!(rt; rows.var(10)?, 6);
+    assert!(rt; mark.0 <= rows.len());
+    rows.release(mark);
+    for (index, number) in [(11, 6), (10, 7), (8, 1)] {
+        assert_eq!(rt; rows.var(index)?, number);
+    }
+    Ok(())
+}
+
+#[test]
+fn trees_are_read_as_they_were_made(rt: HostRuntime) -> Result<(), Fail> {
+    let mut rows = InternedRows::new(rt.alloc())?;
+    let var = rows.var(7)?;
+    assert!(rt; matches!(rows.term(TermId(var)), TermRow::Var(7)));
+    let lam = rows.make(Op::Lam, &[var, var])?;
+    assert!(rt; matches!(rows.term(TermId(lam)), TermRow::Make(Op::Lam, &[0, 0])));
+    let nil = rows.ctx_nil()?;
+    let named = rows.ctx_name(nil)?;
+    assert!(rt; matches!(rows.context(CtxId(named)), CtxRow::Name(CtxId(2))));
+    Ok(())
+}
+
+#[test]
+fn substitutions_are_read_with_their_sizes(rt: HostRuntime) -> Result<(), Fail> {
+    let mut rows = InternedRows::new(rt.alloc())?;
+    rows.reserve(2)?;
+    let var = rows.var(0)?;
+    let shift = rows.shift(3)?;
+    let push = rows.push(shift, var)?;
+    let size = rows.size(SubId(push));
+    let pushed = Some(1);
+    assert_eq!(rt; size, SubSize { pushed, shift: 3 });
+    assert!(rt; matches!(rows.subst(SubId(push)), SubRow::Push(SubId(1), TermId(0))));
+    Ok(())
+}
