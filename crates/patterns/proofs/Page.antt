@@ -3,7 +3,8 @@ use Rattle.std.proofs.Common.{◌≡◌, ℕ, ◌^◌, ◌<◌, ◌≤◌, [], �
 use Rattle.trees.specs.declared.op.Op.{Op}
 use Rattle.trees.specs.Operators.{binds_of}
 use Rattle.trees.specs.Trees.{Tree, NoTrees, More, Var, Make, Subst, apply, push, then, id}
-use Rattle.trees.specs.Judgements.{Context, trees}
+use Rattle.trees.specs.Judgements.{Context, Judgement, trees}
+use Rattle.trees.specs.Language.{Tm}
 use Rattle.trees.specs.Things.{ATree, ASubst, AContext}
 use Rattle.substitution.specs.Forms.{at, lift}
 use Rattle.substitution.specs.Action.{look}
@@ -18,7 +19,6 @@ use Rattle.patterns.specs.Patterns.{patterns, Part, Under, SubstPart, ContextPar
 use Rattle.patterns.specs.Values.{Parts, parts_of, judgement_of, judged_of}
 use Rattle.patterns.specs.Normals.{normals}
 use Rattle.patterns.specs.Fillings.{Fits, filled_judgement}
-use Rattle.patterns.specs.Conclusions as Rule
 use Rattle.patterns.proofs.Soundness.{same_tree-sound, same_judgement-sound, filled-judged_of}
 
 -- two trees, at parts that are known as variables only
@@ -28,11 +28,14 @@ example-trees B a d =
     (Under (at patterns (Part 0) (Part 1)) (SubstPart 2)) (at patterns (Under (Part 0) (lift patterns (SubstPart 2))) (Under (Part 1) (SubstPart 2))) refl
 
 -- two judgements
-example-judgements : (G H : Context) (d : Subst) (c A B : Tree) → Rule.moved trees H d (Rule.sig_snd trees G c A B) ≡ Rule.sig_snd trees H (apply c d) (apply A d) (apply B (lift trees d))
-example-judgements G H d c A B =
-    same_judgement-sound (parts_of (AContext G ∷ AContext H ∷ ASubst d ∷ ATree c ∷ ATree A ∷ ATree B ∷ []))
-    (Rule.moved patterns (ContextPart 1) (SubstPart 2) (Rule.sig_snd patterns (ContextPart 0) (Part 3) (Part 4) (Part 5)))
-    (Rule.sig_snd patterns (ContextPart 1) (Under (Part 3) (SubstPart 2)) (Under (Part 4) (SubstPart 2)) (Under (Part 5) (lift patterns (SubstPart 2)))) refl
+abbrev typed : Context → Tree → Tree → Judgement
+typed G a A = Tm G a A
+
+example-judgements : (G : Context) (a B : Tree) (d : Subst) → typed G (apply a d) (apply (at trees B a) d) ≡ typed G (apply a d) (at trees (apply B (lift trees d)) (apply a d))
+example-judgements G a B d =
+    same_judgement-sound (parts_of (AContext G ∷ ATree a ∷ ATree B ∷ ASubst d ∷ []))
+    (Tm (ContextPart 0) (Under (Part 1) (SubstPart 3)) (Under (at patterns (Part 2) (Part 1)) (SubstPart 3)))
+    (Tm (ContextPart 0) (Under (Part 1) (SubstPart 3)) (at patterns (Under (Part 2) (lift patterns (SubstPart 3))) (Under (Part 1) (SubstPart 3)))) refl
 
 -- two substitutions with one list and one shift
 example-substs : (c d e f : Subst) → then (then (then c d) e) f ≡ then c (then d (then e f))

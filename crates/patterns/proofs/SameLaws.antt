@@ -4,10 +4,10 @@ use Rattle.std.proofs.lemmas.Bool.{eqb-true}
 use denote.Enum.Bare.{same_true}
 use Rattle.trees.specs.declared.op.Op.{Op}
 use Rattle.trees.specs.contracts.op.Op.{the_type}
-use Rattle.trees.specs.Language.{Ctx, Ty, TyEq, Tm, TmEq, Sb}
+use Rattle.trees.specs.Language.{Ctx, Ty, TyEq, Tm, TmEq, Sb, IsFormula, IsFace, Holds, Alike}
 use Rattle.patterns.specs.Patterns.{ContextPart, Empty, AddVar, AddName, AddFace}
 use Rattle.patterns.specs.Normals.{Normal, Normals, NormalSubst, NormalContext, NVar, NMake, NPart, NEntry, NoNormals, MoreNormals, NShift, NPush, NRest, same_op, same_normal, same_normals, same_normal_subst, is_var, is_entry}
-use Rattle.patterns.specs.Tests.{NormalJudgement, same_normal_context, same_normal_judgement}
+use Rattle.patterns.specs.Tests.{NormalJudgement, NormalCondition, same_normal_context, same_normal_judgement, same_normal_condition}
 
 pub both : (a b : Bool) → (a && b) ≡ true → (a ≡ true) × (b ≡ true)
 both true b h = (refl, h)
@@ -85,3 +85,16 @@ same_normal_judgement-true (Sb G d X) (Sb H e Y) h =
     let g = both (same_normal_subst d e) _ f.1 in
     ap₂ (λ C s. Sb C s X) (same_normal_context-true G H f.0) (same_normal_subst-true d e g.0) ∙ ap (Sb H e) (same_normal_context-true X Y g.1)
 same_normal_judgement-true _ _ h = absurd (cc h)
+
+pub same_normal_condition-true : (c k : NormalCondition) → same_normal_condition c k ≡ true → c ≡ k
+same_normal_condition-true (IsFormula G r) (IsFormula H s) h =
+    let f = both (same_normal_context G H) _ h in ap₂ IsFormula (same_normal_context-true G H f.0) (same_normal-true r s f.1)
+same_normal_condition-true (IsFace G p) (IsFace H q) h =
+    let f = both (same_normal_context G H) _ h in ap₂ IsFace (same_normal_context-true G H f.0) (same_normal-true p q f.1)
+same_normal_condition-true (Holds G p) (Holds H q) h =
+    let f = both (same_normal_context G H) _ h in ap₂ Holds (same_normal_context-true G H f.0) (same_normal-true p q f.1)
+same_normal_condition-true (Alike G d e) (Alike H x y) h =
+    let f = both (same_normal_context G H) _ h in
+    let g = both (same_normal_subst d x) _ f.1 in
+    ap₂ (λ C s. Alike C s e) (same_normal_context-true G H f.0) (same_normal_subst-true d x g.0) ∙ ap (Alike H x) (same_normal_subst-true e y g.1)
+same_normal_condition-true _ _ h = absurd (cc h)

@@ -1,16 +1,16 @@
 -- Patterns whose normal forms are equal mean the same at all parts.
 use Rattle.std.proofs.Common.{◌≡◌, true, List, [], ◌∷◌, map, refl, sym, ◌∙◌, ap, ap₂}
-use Rattle.trees.specs.Language.{Ctx, Ty, TyEq, Tm, TmEq, Sb}
+use Rattle.trees.specs.Language.{Ctx, Ty, TyEq, Tm, TmEq, Sb, IsFormula, IsFace, Holds, Alike}
 use Rattle.trees.specs.Trees.{Make, More, trees_of, apply, push, then, id}
 use Rattle.trees.specs.Judgements.{WithVar, WithName, WithFace, trees}
 use Rattle.substitution.proofs.ThenLaws.{apply-id, then-id, id-then}
-use Rattle.patterns.specs.Patterns.{Pattern, Part, Index, Build, Under, Patterns, NoPatterns, MorePatterns, SubstPattern, SubstPart, ShiftBy, Pushed, Then, ContextPattern, ContextPart, Empty, AddVar, AddName, AddFace, JudgementPattern}
-use Rattle.patterns.specs.Values.{Parts, tree_of, kid_trees_of, subst_of, context_of, judged_of, judgement_of}
+use Rattle.patterns.specs.Patterns.{Pattern, Part, Index, Build, Under, Patterns, NoPatterns, MorePatterns, SubstPattern, SubstPart, ShiftBy, Pushed, Then, ContextPattern, ContextPart, Empty, AddVar, AddName, AddFace, JudgementPattern, ConditionPattern, RulePattern}
+use Rattle.patterns.specs.Values.{Parts, tree_of, kid_trees_of, subst_of, context_of, judged_of, judgement_of, tested_of, condition_of, rule_of}
 use Rattle.patterns.specs.Normals.{normals, normals_of, unknown}
-use Rattle.patterns.specs.Fillings.{Fits, filled, filled_kids, filled_subst, filled_context, filled_judgement}
-use Rattle.patterns.specs.Tests.{same_tree, same_subst, same_context, same_judgement, same_judgements}
+use Rattle.patterns.specs.Fillings.{Fits, filled, filled_kids, filled_subst, filled_context, filled_judgement, filled_condition}
+use Rattle.patterns.specs.Tests.{same_tree, same_subst, same_context, same_judgement, same_judgements, same_condition, same_conditions, same_rule}
 use Rattle.patterns.proofs.NormalLaws.{filled-apply_normal, filled-after}
-use Rattle.patterns.proofs.SameLaws.{both, same_normal-true, same_normal_subst-true, same_normal_context-true, same_normal_judgement-true}
+use Rattle.patterns.proofs.SameLaws.{both, same_normal-true, same_normal_subst-true, same_normal_context-true, same_normal_judgement-true, same_normal_condition-true}
 
 -- the normaliser keeps the meaning
 
@@ -49,6 +49,12 @@ module _ (v : Parts trees) (u : Parts normals) (w : Parts trees) (fits : Fits v 
   filled-judged_of (TmEq G a b A) = rw (filled-context_of G, filled-tree_of a, filled-tree_of b, filled-tree_of A) refl
   filled-judged_of (Sb H d G) = rw (filled-context_of H, filled-subst_of d, filled-context_of G) refl
 
+  pub filled-tested_of : (c : ConditionPattern) → filled_condition v (tested_of normals u c) ≡ condition_of w c
+  filled-tested_of (IsFormula G r) = ap₂ IsFormula (filled-context_of G) (filled-tree_of r)
+  filled-tested_of (IsFace G p) = ap₂ IsFace (filled-context_of G) (filled-tree_of p)
+  filled-tested_of (Holds G p) = ap₂ Holds (filled-context_of G) (filled-tree_of p)
+  filled-tested_of (Alike H d e) = rw (filled-context_of H, filled-subst_of d, filled-subst_of e) refl
+
 -- parts of which nothing is known fit every parts
 pub unknown-fits : (v : Parts trees) → Fits v unknown v
 unknown-fits v = record {
@@ -81,3 +87,20 @@ same_judgements-sound v (i ∷ is) (j ∷ js) h =
     let f = both (same_judgement i j) (same_judgements is js) h in
     ap₂ ◌∷◌ (same_judgement-sound v i j f.0) (same_judgements-sound v is js f.1)
 same_judgements-sound v _ _ h = absurd (cc h)
+
+pub same_condition-sound : (v : Parts trees) (c k : ConditionPattern) → same_condition c k ≡ true → condition_of v c ≡ condition_of v k
+same_condition-sound v c k h =
+    sym (filled-tested_of v unknown v (unknown-fits v) c) ∙ ap (filled_condition v) (same_normal_condition-true _ _ h) ∙ filled-tested_of v unknown v (unknown-fits v) k
+
+same_conditions-sound : (v : Parts trees) (cs ks : List ConditionPattern) → same_conditions cs ks ≡ true → map (condition_of v) cs ≡ map (condition_of v) ks
+same_conditions-sound v [] [] h = refl
+same_conditions-sound v (c ∷ cs) (k ∷ ks) h =
+    let f = both (same_condition c k) (same_conditions cs ks) h in
+    ap₂ ◌∷◌ (same_condition-sound v c k f.0) (same_conditions-sound v cs ks f.1)
+same_conditions-sound v _ _ h = absurd (cc h)
+
+pub same_rule-sound : (v : Parts trees) (r s : RulePattern) → same_rule r s ≡ true → rule_of v r ≡ rule_of v s
+same_rule-sound v r s h =
+    let f = both (same_judgements r.wants s.wants) _ h in
+    let g = both (same_conditions r.sides s.sides) _ f.1 in
+    rw (same_judgements-sound v r.wants s.wants f.0, same_conditions-sound v r.sides s.sides g.0, same_judgement-sound v r.gives s.gives g.1) refl

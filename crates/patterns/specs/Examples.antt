@@ -8,7 +8,7 @@ use Rattle.patterns.specs.Patterns.{Pushed, Then, ContextPattern, ContextPart, A
 use Rattle.patterns.specs.Patterns.{JudgementPattern, patterns}
 use Rattle.patterns.specs.Values.{Parts, judgement_of}
 use Rattle.patterns.specs.Tests.{same_judgement}
-use Rattle.patterns.specs.Conclusions as Rule
+use Rattle.patterns.specs.Built.{i0, i1, min, univ, lam, fill_line}
 
 pub record Example : Type 0 where
   pub name : List ℕ
@@ -37,35 +37,11 @@ d = SubstPart 2
 abbrev A : Pattern
 A = Part 3
 
-abbrev B : Pattern
-B = Part 4
-
-abbrev C : Pattern
-C = Part 5
-
-abbrev D : Pattern
-D = Part 6
-
 abbrev a : Pattern
-a = Part 7
-
-abbrev b : Pattern
-b = Part 8
-
-abbrev c : Pattern
-c = Part 9
-
-abbrev k : Pattern
-k = Part 10
-
-abbrev u : Pattern
-u = Part 11
-
-abbrev v : Pattern
-v = Part 12
+a = Part 4
 
 abbrev r : Pattern
-r = Part 13
+r = Part 5
 
 -- a tree of G under d, and one of G with one more entry
 abbrev sub : Pattern → Pattern
@@ -74,101 +50,6 @@ sub t = Under t d
 abbrev sub1 : Pattern → Pattern
 sub1 t = Under t (lift patterns d)
 
--- d takes this conclusion to that one
-abbrev moves : List ℕ → JudgementPattern → JudgementPattern → Example
-moves name conclusion at_substituted_parts =
-    record { name = name; left = Rule.moved patterns H d conclusion; right = at_substituted_parts }
-
-abbrev pub pi_examples : List Example
-pi_examples =
-    moves (codes "pi.ty") (Rule.pi_ty patterns G A B) (Rule.pi_ty patterns H (sub A) (sub1 B))
-    ∷ moves (codes "pi.u") (Rule.pi_u patterns G A B) (Rule.pi_u patterns H (sub A) (sub1 B))
-    ∷ moves (codes "pi.tycong") (Rule.pi_tycong patterns G A C B D)
-    (Rule.pi_tycong patterns H (sub A) (sub C) (sub1 B) (sub1 D))
-    ∷ moves (codes "pi.ucong") (Rule.pi_ucong patterns G A C B D)
-    (Rule.pi_ucong patterns H (sub A) (sub C) (sub1 B) (sub1 D))
-    ∷ moves (codes "lam") (Rule.pi_lam patterns G A b B)
-    (Rule.pi_lam patterns H (sub A) (sub1 b) (sub1 B))
-    ∷ moves (codes "app") (Rule.pi_app patterns G c a A B)
-    (Rule.pi_app patterns H (sub c) (sub a) (sub A) (sub1 B))
-    ∷ moves (codes "app.cong") (Rule.app_cong patterns G c k a b A B)
-    (Rule.app_cong patterns H (sub c) (sub k) (sub a) (sub b) (sub A) (sub1 B))
-    ∷ moves (codes "pi.beta") (Rule.pi_beta patterns G A b a B)
-    (Rule.pi_beta patterns H (sub A) (sub1 b) (sub a) (sub1 B))
-    ∷ moves (codes "pi.eta") (Rule.pi_eta patterns G c k A B)
-    (Rule.pi_eta patterns H (sub c) (sub k) (sub A) (sub1 B))
-    ∷ []
-
-abbrev pub sigma_examples : List Example
-sigma_examples =
-    moves (codes "sig.ty") (Rule.sig_ty patterns G A B) (Rule.sig_ty patterns H (sub A) (sub1 B))
-    ∷ moves (codes "sig.u") (Rule.sig_u patterns G A B) (Rule.sig_u patterns H (sub A) (sub1 B))
-    ∷ moves (codes "sig.tycong") (Rule.sig_tycong patterns G A C B D)
-    (Rule.sig_tycong patterns H (sub A) (sub C) (sub1 B) (sub1 D))
-    ∷ moves (codes "sig.ucong") (Rule.sig_ucong patterns G A C B D)
-    (Rule.sig_ucong patterns H (sub A) (sub C) (sub1 B) (sub1 D))
-    ∷ moves (codes "pair") (Rule.sig_pair patterns G a b A B)
-    (Rule.sig_pair patterns H (sub a) (sub b) (sub A) (sub1 B))
-    ∷ moves (codes "fst") (Rule.sig_fst patterns G c A B)
-    (Rule.sig_fst patterns H (sub c) (sub A) (sub1 B))
-    ∷ moves (codes "snd") (Rule.sig_snd patterns G c A B)
-    (Rule.sig_snd patterns H (sub c) (sub A) (sub1 B))
-    ∷ moves (codes "fst.cong") (Rule.fst_cong patterns G c k A B)
-    (Rule.fst_cong patterns H (sub c) (sub k) (sub A) (sub1 B))
-    ∷ moves (codes "snd.cong") (Rule.snd_cong patterns G c k A B)
-    (Rule.snd_cong patterns H (sub c) (sub k) (sub A) (sub1 B))
-    ∷ moves (codes "sig.beta1") (Rule.sig_beta1 patterns G a b A B)
-    (Rule.sig_beta1 patterns H (sub a) (sub b) (sub A) (sub1 B))
-    ∷ moves (codes "sig.beta2") (Rule.sig_beta2 patterns G a b A B)
-    (Rule.sig_beta2 patterns H (sub a) (sub b) (sub A) (sub1 B))
-    ∷ moves (codes "sig.eta") (Rule.sig_eta patterns G c k A B)
-    (Rule.sig_eta patterns H (sub c) (sub k) (sub A) (sub1 B))
-    ∷ []
-
--- A is a line here, and C another
-abbrev pub path_examples : List Example
-path_examples =
-    moves (codes "path.ty") (Rule.path_ty patterns G A u v)
-    (Rule.path_ty patterns H (sub1 A) (sub u) (sub v))
-    ∷ moves (codes "path.u") (Rule.path_u patterns G A u v)
-    (Rule.path_u patterns H (sub1 A) (sub u) (sub v))
-    ∷ moves (codes "path.tycong") (Rule.path_tycong patterns G A C u a v b)
-    (Rule.path_tycong patterns H (sub1 A) (sub1 C) (sub u) (sub a) (sub v) (sub b))
-    ∷ moves (codes "path.ucong") (Rule.path_ucong patterns G A C u a v b)
-    (Rule.path_ucong patterns H (sub1 A) (sub1 C) (sub u) (sub a) (sub v) (sub b))
-    ∷ moves (codes "plam") (Rule.path_lam patterns G A b u v)
-    (Rule.path_lam patterns H (sub1 A) (sub1 b) (sub u) (sub v))
-    ∷ moves (codes "papp") (Rule.path_app patterns G c r A u v)
-    (Rule.path_app patterns H (sub c) (sub r) (sub1 A) (sub u) (sub v))
-    ∷ moves (codes "papp.cong") (Rule.papp_cong patterns G c k r A u v)
-    (Rule.papp_cong patterns H (sub c) (sub k) (sub r) (sub1 A) (sub u) (sub v))
-    ∷ moves (codes "path.left") (Rule.path_left patterns G c A u v)
-    (Rule.path_left patterns H (sub c) (sub1 A) (sub u) (sub v))
-    ∷ moves (codes "path.right") (Rule.path_right patterns G c A u v)
-    (Rule.path_right patterns H (sub c) (sub1 A) (sub u) (sub v))
-    ∷ moves (codes "path.beta") (Rule.path_beta patterns G A b r)
-    (Rule.path_beta patterns H (sub1 A) (sub1 b) (sub r))
-    ∷ moves (codes "path.eta") (Rule.path_eta patterns G c k A u v)
-    (Rule.path_eta patterns H (sub c) (sub k) (sub1 A) (sub u) (sub v))
-    ∷ []
-
--- what the eta rules want, where c and k stand weakened
-abbrev pub eta_examples : List Example
-eta_examples =
-    record {
-      name = codes "pi.eta";
-      left = Rule.moved patterns (AddVar H (sub A)) (lift patterns d)
-          (Rule.pi_eta_wants patterns (AddVar G A) c k B);
-      right = Rule.pi_eta_wants patterns (AddVar H (sub A)) (sub c) (sub k) (sub1 B);
-    }
-    ∷ record {
-      name = codes "path.eta";
-      left = Rule.moved patterns (AddName H) (lift patterns d)
-          (Rule.path_eta_wants patterns (AddName G) c k A);
-      right = Rule.path_eta_wants patterns (AddName H) (sub c) (sub k) (sub1 A);
-    }
-    ∷ []
-
 abbrev same_type : List ℕ → ContextPattern → Pattern → Pattern → Example
 same_type name K p q = record { name = name; left = Ty K p; right = Ty K q }
 
@@ -176,10 +57,10 @@ abbrev same_list : List ℕ → SubstPattern → SubstPattern → Example
 same_list name x y = record { name = name; left = Sb H x G; right = Sb H y G }
 
 abbrev e : SubstPattern
-e = SubstPart 14
+e = SubstPart 6
 
 abbrev f : SubstPattern
-f = SubstPart 15
+f = SubstPart 7
 
 -- the two innermost indices exchanged
 abbrev exchange : SubstPattern
@@ -200,9 +81,9 @@ law_examples =
     (Under A (Pushed (Then (ShiftBy 1) d) (Under (Index 0) d))) (Under A d)
     ∷ same_type (codes "A+{a} = A") G (at patterns (weaken patterns A) a) A
     ∷ same_type (codes "a function for the index of another") G
-    (Under (Rule.lam patterns (Rule.univ patterns) (Index 1))
-    (Pushed (ShiftBy 0) (Rule.lam patterns (Rule.univ patterns) (Index 0))))
-    (Rule.lam patterns (Rule.univ patterns) (Rule.lam patterns (Rule.univ patterns) (Index 0)))
+    (Under (lam univ (Index 1))
+    (Pushed (ShiftBy 0) (lam univ (Index 0))))
+    (lam univ (lam univ (Index 0)))
     ∷ same_type (codes "an exchange undoes itself") G (Under (Under A exchange) exchange) A
     ∷ []
 
@@ -215,24 +96,23 @@ end e = Pushed (ShiftBy 0) e
 abbrev pub filling_examples : List Example
 filling_examples =
     same_type (codes "r = 0") (AddName G)
-    (Under (Rule.fill_line patterns (Under A (lift patterns (ShiftBy 1))) (Index 0))
-    (lift patterns (end (Rule.i0 patterns))))
-    (Rule.fill_line patterns A (Rule.i0 patterns))
+    (Under (fill_line (Under A (lift patterns (ShiftBy 1))) (Index 0))
+    (lift patterns (end i0)))
+    (fill_line A i0)
     ∷ same_type (codes "r = 1") (AddName G)
-    (Under (Rule.fill_line patterns (Under A (lift patterns (ShiftBy 1))) (Index 0))
-    (lift patterns (end (Rule.i1 patterns))))
-    (Rule.fill_line patterns A (Rule.i1 patterns))
+    (Under (fill_line (Under A (lift patterns (ShiftBy 1))) (Index 0))
+    (lift patterns (end i1)))
+    (fill_line A i1)
     ∷ same_type (codes "j = 0") G
-    (at patterns (Rule.fill_line patterns A r) (Rule.i0 patterns))
-    (at patterns A (Rule.min patterns r (Rule.i0 patterns)))
+    (at patterns (fill_line A r) i0)
+    (at patterns A (min r i0))
     ∷ same_type (codes "j = 1") G
-    (at patterns (Rule.fill_line patterns A r) (Rule.i1 patterns))
-    (at patterns A (Rule.min patterns r (Rule.i1 patterns)))
+    (at patterns (fill_line A r) i1)
+    (at patterns A (min r i1))
     ∷ same_type (codes "under d") (AddName H)
-    (Under (Rule.fill_line patterns A r) (lift patterns d))
-    (Rule.fill_line patterns (sub1 A) (sub r))
+    (Under (fill_line A r) (lift patterns d))
+    (fill_line (sub1 A) (sub r))
     ∷ []
 
 abbrev pub every_example : List Example
-every_example = pi_examples ++ sigma_examples ++ path_examples ++
-    eta_examples ++ filling_examples ++ law_examples
+every_example = filling_examples ++ law_examples

@@ -1,9 +1,11 @@
 -- What a normal term with unknown parts means at given parts.
 use Rattle.std.specs.Prelude.{◌≡◌, ℕ}
 use Rattle.trees.specs.Language.{Ctx, Ty, TyEq, Tm, TmEq, Sb}
+use Rattle.trees.specs.Language.{IsFormula, IsFace, Holds, Alike}
 use Rattle.trees.specs.Trees.{Tree, Trees, Var, Make, NoTrees, More}
 use Rattle.trees.specs.Trees.{Subst, apply, shift_by, push, then}
 use Rattle.trees.specs.Judgements.{Context, Nil, WithVar, WithName, WithFace, trees, Judgement}
+use Rattle.trees.specs.Judgements.{SideCondition}
 use Rattle.substitution.specs.Forms.{drop}
 use Rattle.substitution.specs.Action.{look}
 use Rattle.patterns.specs.Patterns.{ContextPart, Empty, AddVar, AddName, AddFace}
@@ -11,7 +13,7 @@ use Rattle.patterns.specs.Values.{Parts}
 use Rattle.patterns.specs.Normals.{Normal, Normals, NormalSubst, NVar, NMake, NPart, NEntry}
 use Rattle.patterns.specs.Normals.{NoNormals, MoreNormals, NShift, NPush, NRest, NormalContext}
 use Rattle.patterns.specs.Normals.{normals}
-use Rattle.patterns.specs.Tests.{NormalJudgement}
+use Rattle.patterns.specs.Tests.{NormalJudgement, NormalCondition}
 
 abbrev mutual
   pub filled : Parts trees → Normal → Tree
@@ -43,6 +45,13 @@ filled_judgement v (TyEq G A B) = TyEq (filled_context v G) (filled v A) (filled
 filled_judgement v (Tm G a A) = Tm (filled_context v G) (filled v a) (filled v A)
 filled_judgement v (TmEq G a b A) = TmEq (filled_context v G) (filled v a) (filled v b) (filled v A)
 filled_judgement v (Sb H d G) = Sb (filled_context v H) (filled_subst v d) (filled_context v G)
+
+abbrev pub filled_condition : Parts trees → NormalCondition → SideCondition
+filled_condition v (IsFormula G r) = IsFormula (filled_context v G) (filled v r)
+filled_condition v (IsFace G p) = IsFace (filled_context v G) (filled v p)
+filled_condition v (Holds G p) = Holds (filled_context v G) (filled v p)
+filled_condition v (Alike H d e) =
+    Alike (filled_context v H) (filled_subst v d) (filled_subst v e)
 
 -- at the parts v the normal terms u are the parts w
 pub record Fits (v : Parts trees) (u : Parts normals) (w : Parts trees) : Type 0 where

@@ -3,6 +3,6 @@ pub mod Values
 pub mod Normals
 pub mod Fillings
 pub mod Tests
-pub mod Conclusions
+pub mod Built
 pub mod Examples
 pub mod Refusals

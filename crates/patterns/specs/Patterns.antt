@@ -1,7 +1,7 @@
 -- Trees, substitutions, contexts and judgements with numbered parts that are not known.
 use Rattle.std.specs.Prelude.{ℕ, List, [], ◌∷◌}
 use Rattle.trees.specs.declared.op.Op.{Op}
-use Rattle.trees.specs.Language.{Language, Judged, Tested}
+use Rattle.trees.specs.Language.{Language, Judged, Tested, RuleOf}
 
 mutual
   pub data Pattern : Type 0 where
@@ -39,6 +39,9 @@ JudgementPattern = Judged ContextPattern Pattern SubstPattern
 
 abbrev pub ConditionPattern : Type 0
 ConditionPattern = Tested ContextPattern Pattern SubstPattern
+
+abbrev pub RulePattern : Type 0
+RulePattern = RuleOf ContextPattern Pattern SubstPattern
 
 abbrev pub patterns_of : List Pattern → Patterns
 patterns_of [] = NoPatterns

@@ -8,7 +8,7 @@ use Rattle.patterns.specs.Patterns.{Pattern, Part, Index, Under, SubstPattern, S
 use Rattle.patterns.specs.Patterns.{Pushed, Then, Empty, JudgementPattern, patterns}
 use Rattle.patterns.specs.Values.{parts_of, judgement_of}
 use Rattle.patterns.specs.Tests.{same_judgement}
-use Rattle.patterns.specs.Conclusions.{univ, lam, pi}
+use Rattle.patterns.specs.Built.{univ, lam, pi}
 
 pub record Refusal : Type 0 where
   pub name : List ℕ
@@ -63,16 +63,16 @@ one_index_off =
     ∷ differ (codes "tail with the second entry first")
     (Under A (Pushed (Then (ShiftBy 1) d) (Under (Index 1) d))) (Under A d) (Var 0) (Var 0)
     -- a normaliser that forgets the cutoff under a binder
-    ∷ differ (codes "index that a binder keeps") (Under (lam patterns A (Index 0)) (ShiftBy 1))
-    (lam patterns (Under A (ShiftBy 1)) (Index 1)) (Var 0) (Var 0)
-    ∷ differ (codes "index past a binder") (Under (lam patterns A (Index 1)) (ShiftBy 1))
-    (lam patterns (Under A (ShiftBy 1)) (Index 1)) (Var 0) (Var 0)
-    ∷ differ (codes "part under a binder") (Under (pi patterns A B) (ShiftBy 1))
-    (pi patterns (Under A (ShiftBy 1)) (Under B (ShiftBy 1))) (Var 0) (Var 0)
+    ∷ differ (codes "index that a binder keeps") (Under (lam A (Index 0)) (ShiftBy 1))
+    (lam (Under A (ShiftBy 1)) (Index 1)) (Var 0) (Var 0)
+    ∷ differ (codes "index past a binder") (Under (lam A (Index 1)) (ShiftBy 1))
+    (lam (Under A (ShiftBy 1)) (Index 1)) (Var 0) (Var 0)
+    ∷ differ (codes "part under a binder") (Under (pi A B) (ShiftBy 1))
+    (pi (Under A (ShiftBy 1)) (Under B (ShiftBy 1))) (Var 0) (Var 0)
     ∷ differ (codes "index that a binder keeps in a pushed tree")
-    (Under (lam patterns (univ patterns) (Index 1))
-    (Pushed (ShiftBy 0) (lam patterns (univ patterns) (Index 0))))
-    (lam patterns (univ patterns) (lam patterns (univ patterns) (Index 1))) (Var 0) (Var 0)
+    (Under (lam univ (Index 1))
+    (Pushed (ShiftBy 0) (lam univ (Index 0))))
+    (lam univ (lam univ (Index 1))) (Var 0) (Var 0)
     -- one that mixes up the parts
     ∷ differ (codes "another part") A B (Var 0) (Var 1)
     -- these act alike, and are two substitutions

@@ -2,9 +2,11 @@
 -- equal.
 use Rattle.std.specs.Prelude.{List, [], ◌∷◌, Bool, true, false, ◌&&◌, ◌==◌}
 use Rattle.trees.specs.Language.{Judged, Ctx, Ty, TyEq, Tm, TmEq, Sb}
+use Rattle.trees.specs.Language.{Tested, IsFormula, IsFace, Holds, Alike}
 use Rattle.patterns.specs.Patterns.{Pattern, SubstPattern, ContextPattern, JudgementPattern}
+use Rattle.patterns.specs.Patterns.{ConditionPattern, RulePattern}
 use Rattle.patterns.specs.Patterns.{ContextPart, Empty, AddVar, AddName, AddFace}
-use Rattle.patterns.specs.Values.{tree_of, subst_of, context_of, judged_of}
+use Rattle.patterns.specs.Values.{tree_of, subst_of, context_of, judged_of, tested_of}
 use Rattle.patterns.specs.Normals.{Normal, NormalSubst, NormalContext, normals}
 use Rattle.patterns.specs.Normals.{unknown, same_normal, same_normal_subst}
 
@@ -32,6 +34,17 @@ same_normal_judgement (Sb G d X) (Sb H e Y) =
     same_normal_context G H && (same_normal_subst d e && same_normal_context X Y)
 same_normal_judgement _ _ = false
 
+abbrev pub NormalCondition : Type 0
+NormalCondition = Tested NormalContext Normal NormalSubst
+
+abbrev pub same_normal_condition : NormalCondition → NormalCondition → Bool
+same_normal_condition (IsFormula G r) (IsFormula H s) = same_normal_context G H && same_normal r s
+same_normal_condition (IsFace G p) (IsFace H q) = same_normal_context G H && same_normal p q
+same_normal_condition (Holds G p) (Holds H q) = same_normal_context G H && same_normal p q
+same_normal_condition (Alike G d e) (Alike H f g) =
+    same_normal_context G H && (same_normal_subst d f && same_normal_subst e g)
+same_normal_condition _ _ = false
+
 abbrev pub same_tree : Pattern → Pattern → Bool
 same_tree p q = same_normal (tree_of normals unknown p) (tree_of normals unknown q)
 
@@ -50,3 +63,18 @@ abbrev pub same_judgements : List JudgementPattern → List JudgementPattern →
 same_judgements [] [] = true
 same_judgements (i ∷ is) (j ∷ js) = same_judgement i j && same_judgements is js
 same_judgements _ _ = false
+
+abbrev pub same_condition : ConditionPattern → ConditionPattern → Bool
+same_condition c k =
+    same_normal_condition (tested_of normals unknown c) (tested_of normals unknown k)
+
+abbrev pub same_conditions : List ConditionPattern → List ConditionPattern → Bool
+same_conditions [] [] = true
+same_conditions (c ∷ cs) (k ∷ ks) = same_condition c k && same_conditions cs ks
+same_conditions _ _ = false
+
+-- two rules with the same premises, side conditions and conclusion
+abbrev pub same_rule : RulePattern → RulePattern → Bool
+same_rule r s =
+    same_judgements r.wants s.wants
+    && (same_conditions r.sides s.sides && same_judgement r.gives s.gives)

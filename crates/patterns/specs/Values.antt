@@ -1,14 +1,15 @@
 -- What a pattern means at given parts, in any language.
-use Rattle.std.specs.Prelude.{ℕ, zero, suc, List, [], ◌∷◌}
+use Rattle.std.specs.Prelude.{ℕ, zero, suc, List, [], ◌∷◌, map}
 use Rattle.trees.specs.Language.{Language, Tested, Ctx, Ty, TyEq, Tm, TmEq, Sb, IsFormula}
 use Rattle.trees.specs.Language.{IsFace, Holds, Alike, JudgementOf}
 use Rattle.trees.specs.Trees.{Tree, Subst, Var, id}
 use Rattle.trees.specs.Judgements.{Context, Nil, trees, Judgement, SideCondition}
+use Rattle.trees.specs.Judgements.{TreeRule}
 use Rattle.trees.specs.Things.{Thing, ATree, ASubst, AContext}
 use Rattle.patterns.specs.Patterns.{Pattern, Part, Index, Build, Under, Patterns, NoPatterns}
 use Rattle.patterns.specs.Patterns.{MorePatterns, SubstPattern, SubstPart, ShiftBy, Pushed, Then}
 use Rattle.patterns.specs.Patterns.{ContextPattern, ContextPart, Empty, AddVar, AddName, AddFace}
-use Rattle.patterns.specs.Patterns.{JudgementPattern, ConditionPattern}
+use Rattle.patterns.specs.Patterns.{JudgementPattern, ConditionPattern, RulePattern}
 
 module _ (L : Language) where
   -- what stands for each number: a tree, a substitution and a context
@@ -80,3 +81,10 @@ judgement_of v j = judged_of trees v j
 
 abbrev pub condition_of : Parts trees → ConditionPattern → SideCondition
 condition_of v c = tested_of trees v c
+
+abbrev pub rule_of : Parts trees → RulePattern → TreeRule
+rule_of v r = record {
+  wants = map (judgement_of v) r.wants;
+  sides = map (condition_of v) r.sides;
+  gives = judgement_of v r.gives;
+}

@@ -12,16 +12,18 @@ ghost use Rattle.trees.specs.Trees.{Tree, apply, then};
 ghost use Rattle.trees.specs.Judgements.{trees};
 ghost use Rattle.substitution.specs.Action.{ActAlike};
 ghost use Rattle.patterns.specs.Patterns.{Pattern, SubstPattern, ContextPattern, JudgementPattern};
+ghost use Rattle.patterns.specs.Patterns.{ConditionPattern, RulePattern};
 ghost use Rattle.patterns.specs.Values.{Parts, tree_of, subst_of, context_of};
-ghost use Rattle.patterns.specs.Values.{judged_of, judgement_of};
+ghost use Rattle.patterns.specs.Values.{judged_of, judgement_of, condition_of, rule_of};
 ghost use Rattle.patterns.specs.Normals.{Normal, NormalSubst, normals, unknown};
 ghost use Rattle.patterns.specs.Normals.{trimmed, apply_normal, after};
 ghost use Rattle.patterns.specs.Fillings.{Fits, filled, filled_subst, filled_context};
 ghost use Rattle.patterns.specs.Fillings.{filled_judgement};
 ghost use Rattle.patterns.specs.Tests.{same_tree, same_subst, same_context};
-ghost use Rattle.patterns.specs.Tests.{same_judgement, same_judgements};
-ghost use Rattle.patterns.specs.Examples.{HoldsAtAll, pi_examples, sigma_examples, path_examples};
-ghost use Rattle.patterns.specs.Examples.{filling_examples, law_examples, every_example};
+ghost use Rattle.patterns.specs.Tests.{same_judgement, same_judgements, same_condition};
+ghost use Rattle.patterns.specs.Tests.{same_rule};
+ghost use Rattle.patterns.specs.Examples.{HoldsAtAll, filling_examples, law_examples};
+ghost use Rattle.patterns.specs.Examples.{every_example};
 ghost use Rattle.patterns.specs.Refusals.{is_refused, Differ, one_index_off};
 
 /// Two patterns that a test accepts mean the same at all parts.
@@ -36,6 +38,10 @@ pub fn tests_are_sound()
         same_judgement i j ≡ true → judgement_of v i ≡ judgement_of v j }
     ensures of_lists { (v : Parts trees) (is js : List JudgementPattern) →
         same_judgements is js ≡ true → map (judgement_of v) is ≡ map (judgement_of v) js }
+    ensures of_conditions { (v : Parts trees) (c k : ConditionPattern) →
+        same_condition c k ≡ true → condition_of v c ≡ condition_of v k }
+    ensures of_rules { (v : Parts trees) (r s : RulePattern) →
+        same_rule r s ≡ true → rule_of v r ≡ rule_of v s }
 {}
 
 /// A pattern read in normal terms u, filled in at the parts v, is the pattern read at the parts w
@@ -65,14 +71,9 @@ pub fn normal_terms_are_trees()
         ActAlike (filled_subst v (trimmed s)) (filled_subst v s) }
 {}
 
-/// Examples: a substitution takes the conclusion of each rule of Pi, Sigma and PathP to the
-/// conclusion at the substituted parts, the line of filling has its ends, and the laws of
-/// substitution are found.
+/// Examples: the line of filling has its ends, and the laws of substitution are found.
 pub fn examples()
     ensures hold { All HoldsAtAll every_example }
-    ensures pi { length pi_examples ≡ 9 }
-    ensures sigma { length sigma_examples ≡ 12 }
-    ensures path { length path_examples ≡ 11 }
     ensures filling { length filling_examples ≡ 5 }
     ensures laws { length law_examples ≡ 11 }
 {}

@@ -5,9 +5,6 @@ use Rattle.patterns.proofs.examples.Goals as goal
 pub returns : goal.returns
 returns c = record {
   hold = every_example-holds;
-  pi = refl;
-  sigma = refl;
-  path = refl;
   filling = refl;
   laws = refl;
 }

@@ -1,4 +1,4 @@
-use Rattle.patterns.proofs.Soundness.{same_tree-sound, same_subst-sound, same_context-sound, same_judgement-sound, same_judgements-sound}
+use Rattle.patterns.proofs.Soundness.{same_tree-sound, same_subst-sound, same_context-sound, same_judgement-sound, same_judgements-sound, same_condition-sound, same_rule-sound}
 use Rattle.patterns.proofs.tests_are_sound.Goals as goal
 
 pub returns : goal.returns
@@ -8,4 +8,6 @@ returns c = record {
   of_contexts = same_context-sound;
   of_judgements = same_judgement-sound;
   of_lists = same_judgements-sound;
+  of_conditions = same_condition-sound;
+  of_rules = same_rule-sound;
 }

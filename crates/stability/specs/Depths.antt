@@ -1,0 +1,82 @@
+-- Under how many variables and names, beyond the context of the rule, each tree stands that is a part
+-- of a rule.
+use Rattle.std.specs.Prelude.{ℕ, List, [], ◌∷◌}
+use Rattle.theory.specs.declared.rule.EqualityRule.{EqualityRule}
+use Rattle.theory.specs.declared.rule.EqualityRule.TheVariants.{TyEqRefl, TyEqSym, TyEqTrans}
+use Rattle.theory.specs.declared.rule.EqualityRule.TheVariants.{TmEqRefl, TmEqSym, TmEqTrans}
+use Rattle.theory.specs.declared.rule.EqualityRule.TheVariants.{TmConv, TmEqConv}
+use Rattle.theory.specs.declared.rule.UniverseRule.{UniverseRule}
+use Rattle.theory.specs.declared.rule.UniverseRule.TheVariants.{TyUniv, TyU, TyEqU}
+use Rattle.theory.specs.declared.rule.PiRule.{PiRule}
+use Rattle.theory.specs.declared.rule.PiRule.TheVariants.{PiTy, PiU, PiTyCong, PiUCong, Lam, App}
+use Rattle.theory.specs.declared.rule.PiRule.TheVariants.{AppCong, PiBeta, PiEta}
+use Rattle.theory.specs.declared.rule.SigmaRule.{SigmaRule}
+use Rattle.theory.specs.declared.rule.SigmaRule.TheVariants.{SigTy, SigU, SigTyCong, SigUCong, Pair}
+use Rattle.theory.specs.declared.rule.SigmaRule.TheVariants.{Fst, Snd, FstCong, SndCong, SigBeta1}
+use Rattle.theory.specs.declared.rule.SigmaRule.TheVariants.{SigBeta2, SigEta}
+use Rattle.theory.specs.declared.rule.PathRule.{PathRule}
+use Rattle.theory.specs.declared.rule.PathRule.TheVariants.{PathTy, PathU, PathTyCong, PathUCong}
+use Rattle.theory.specs.declared.rule.PathRule.TheVariants.{PLam, PathLeft, PathRight, PathEta}
+use Rattle.theory.specs.declared.rule.NatRule.{NatRule}
+use Rattle.theory.specs.declared.rule.NatRule.TheVariants.{NatU, Zero, Suc, SucCong, NatRec}
+use Rattle.theory.specs.declared.rule.NatRule.TheVariants.{NatRecCong, NatRecZero, NatRecSuc}
+
+abbrev pub equality_depths : EqualityRule → List ℕ
+equality_depths TyEqRefl = 0 ∷ []
+equality_depths TyEqSym = 0 ∷ 0 ∷ []
+equality_depths TyEqTrans = 0 ∷ 0 ∷ 0 ∷ []
+equality_depths TmEqRefl = 0 ∷ 0 ∷ []
+equality_depths TmEqSym = 0 ∷ 0 ∷ 0 ∷ []
+equality_depths TmEqTrans = 0 ∷ 0 ∷ 0 ∷ 0 ∷ []
+equality_depths TmConv = 0 ∷ 0 ∷ 0 ∷ []
+equality_depths TmEqConv = 0 ∷ 0 ∷ 0 ∷ 0 ∷ []
+
+abbrev pub universe_depths : UniverseRule → List ℕ
+universe_depths TyUniv = []
+universe_depths TyU = 0 ∷ []
+universe_depths TyEqU = 0 ∷ 0 ∷ []
+
+abbrev pub pi_depths : PiRule → List ℕ
+pi_depths PiTy = 0 ∷ 1 ∷ []
+pi_depths PiU = 0 ∷ 1 ∷ []
+pi_depths PiTyCong = 0 ∷ 0 ∷ 1 ∷ 1 ∷ []
+pi_depths PiUCong = 0 ∷ 0 ∷ 1 ∷ 1 ∷ []
+pi_depths Lam = 0 ∷ 1 ∷ 1 ∷ []
+pi_depths App = 0 ∷ 0 ∷ 0 ∷ 1 ∷ []
+pi_depths AppCong = 0 ∷ 0 ∷ 0 ∷ 0 ∷ 0 ∷ 1 ∷ []
+pi_depths PiBeta = 0 ∷ 1 ∷ 0 ∷ 1 ∷ []
+pi_depths PiEta = 0 ∷ 0 ∷ 0 ∷ 1 ∷ []
+
+abbrev pub sigma_depths : SigmaRule → List ℕ
+sigma_depths SigTy = 0 ∷ 1 ∷ []
+sigma_depths SigU = 0 ∷ 1 ∷ []
+sigma_depths SigTyCong = 0 ∷ 0 ∷ 1 ∷ 1 ∷ []
+sigma_depths SigUCong = 0 ∷ 0 ∷ 1 ∷ 1 ∷ []
+sigma_depths Pair = 0 ∷ 0 ∷ 0 ∷ 1 ∷ []
+sigma_depths Fst = 0 ∷ 0 ∷ 1 ∷ []
+sigma_depths Snd = 0 ∷ 0 ∷ 1 ∷ []
+sigma_depths FstCong = 0 ∷ 0 ∷ 0 ∷ 1 ∷ []
+sigma_depths SndCong = 0 ∷ 0 ∷ 0 ∷ 1 ∷ []
+sigma_depths SigBeta1 = 0 ∷ 0 ∷ 0 ∷ 1 ∷ []
+sigma_depths SigBeta2 = 0 ∷ 0 ∷ 0 ∷ 1 ∷ []
+sigma_depths SigEta = 0 ∷ 0 ∷ 0 ∷ 1 ∷ []
+
+abbrev pub path_depths : PathRule → List ℕ
+path_depths PathTy = 1 ∷ 0 ∷ 0 ∷ []
+path_depths PathU = 1 ∷ 0 ∷ 0 ∷ []
+path_depths PathTyCong = 1 ∷ 1 ∷ 0 ∷ 0 ∷ 0 ∷ 0 ∷ []
+path_depths PathUCong = 1 ∷ 1 ∷ 0 ∷ 0 ∷ 0 ∷ 0 ∷ []
+path_depths PLam = 1 ∷ 1 ∷ 0 ∷ 0 ∷ []
+path_depths PathLeft = 0 ∷ 1 ∷ 0 ∷ 0 ∷ []
+path_depths PathRight = 0 ∷ 1 ∷ 0 ∷ 0 ∷ []
+path_depths PathEta = 0 ∷ 0 ∷ 1 ∷ 0 ∷ 0 ∷ []
+
+abbrev pub nat_depths : NatRule → List ℕ
+nat_depths NatU = []
+nat_depths Zero = []
+nat_depths Suc = 0 ∷ []
+nat_depths SucCong = 0 ∷ 0 ∷ []
+nat_depths NatRec = 1 ∷ 0 ∷ 0 ∷ 0 ∷ []
+nat_depths NatRecCong = 1 ∷ 1 ∷ 0 ∷ 0 ∷ 0 ∷ 0 ∷ 0 ∷ 0 ∷ []
+nat_depths NatRecZero = 1 ∷ 0 ∷ 0 ∷ []
+nat_depths NatRecSuc = 1 ∷ 0 ∷ 0 ∷ 0 ∷ []
