@@ -95,7 +95,7 @@ pub record Pushed (o p : Option Thing) : Type 0 where
   pub tree_is : p ≡ Some (ATree tree)
   pub whole : both pushed_on o p ≡ Some (ASubst (push rest tree))
 
-pushed : (f : Meanings) (known : List (List Waiting)) (rest : SubstClosure) (c : Closure) → IsSubstClosure f known rest → IsClosure f known 0 c → Pushed (subst_closure_meaning f known rest) (closure_meaning f known c)
+pub pushed : (f : Meanings) (known : List (List Waiting)) (rest : SubstClosure) (c : Closure) → IsSubstClosure f known rest → IsClosure f known 0 c → Pushed (subst_closure_meaning f known rest) (closure_meaning f known c)
 pushed f known rest c s t =
     let d = subst_closure-subst f known rest s in
     let a = closure-tree f known 0 c t in

@@ -1,0 +1,12 @@
+pub mod LevelLaws
+pub mod AgreementLaws
+pub mod HoldsLaws
+pub mod SameLaws
+pub mod CombineLaws
+pub mod OpeningLaws
+pub mod CombinedLaws
+pub mod WalkLaws
+pub mod ContextLaws
+pub mod AlikeLaws
+pub mod KeptLaws
+pub mod FormulaLaws
