@@ -4,6 +4,7 @@ pub mod FiledLaws
 mod HeldLaws
 pub mod NamedLaws
 pub mod ThingLaws
+pub mod SideLaws
 pub mod NodeLaws
 pub mod RowLaws
 pub mod ShiftLaws

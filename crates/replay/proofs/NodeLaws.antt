@@ -1,20 +1,21 @@
 -- What is known of the premises of a node, place by place.
-use Rattle.std.proofs.Common.{◌≡◌, ℕ, zero, suc, ◌+◌, ◌<◌, ◌≤◌, List, [], ◌∷◌, length, take, get_or, refl, sym, ◌∙◌, ap, arith, Option, Some, None, IsSome, IsTrue, Bool, false, ◌↔◌}
+use Rattle.std.proofs.Common.{◌≡◌, ℕ, zero, suc, ◌+◌, ◌<◌, ◌≤◌, List, [], ◌∷◌, length, take, get_or, refl, sym, ◌∙◌, ap, subst, arith, Option, Some, None, IsSome, IsTrue, Bool, false, ◌↔◌}
 use Rattle.std.specs.Prelude.{slice_get, option_and_then}
 use Rattle.std.specs.List.{All}
 use Rattle.theory.specs.declared.rule.RuleName.{RuleName}
-use Rattle.trees.specs.Judgements.{Judgement, SideCondition, TreeRule}
+use Rattle.trees.specs.Judgements.{Judgement, TreeRule}
 use Rattle.theory.specs.RuleNames.{kinds_of, premises_of}
 use Rattle.trees.specs.Things.{Thing, meanings}
 use Rattle.rules.specs.Rules.{rule_at}
 use Rattle.rules.specs.Sides.{SideHolds}
 use Rattle.rules.specs.Claims.{rule_over, premise_at, conclusion_of as conclusion_of_rule}
-use Rattle.rules.proofs.TableLaws.{wants-count, no_sides, some_rule, rule_kinds}
+use Rattle.rules.proofs.TableLaws.{wants-count, some_rule, rule_kinds}
 use Rattle.derivation.specs.Meanings.{Meaning, things_at, conclusions_at}
 use Rattle.derivation.specs.Right.{RightNode}
 use Rattle.replay.specs.declared.filed.Filed.{Filed}
 use Rattle.replay.specs.Filed.{file_meanings, wants_of}
 use Rattle.replay.specs.Named.{Names, NamesNone}
+use Rattle.replay.specs.Sides.{sides_of}
 use Rattle.trees.proofs.Meanings.{meanings-more, meanings-all, meanings-place}
 
 -- the rule that stands at parts
@@ -26,7 +27,6 @@ pub record RuleThere (name : RuleName) (parts : Option (List Thing)) : Type 0 wh
   pub at : rule_at name xs ≡ Some rule
   pub is : rule_over name parts ≡ Some rule
   pub count : length rule.wants ≡ premises_of name
-  pub sides : rule.sides ≡ []
 
 pub rule_there : (name : RuleName) (parts : Option (List Thing)) → IsSome (rule_over name parts) → RuleThere name parts
 rule_there name None some = cc
@@ -34,7 +34,7 @@ rule_there name (Some xs) some = from (rule_at name xs) refl some
   where
     from : (o : Option TreeRule) → rule_at name xs ≡ o → IsSome o → RuleThere name (Some xs)
     from None e some = cc
-    from (Some r) e some = record { xs = xs; rule = r; parts_are = refl; at = e; is = e; count = wants-count name xs r e; sides = no_sides name xs r e }
+    from (Some r) e some = record { xs = xs; rule = r; parts_are = refl; at = e; is = e; count = wants-count name xs r e }
 
 pub premise_some : (name : RuleName) (parts : Option (List Thing)) (at : ℕ) → IsSome (rule_over name parts) → at < premises_of name → IsSome (premise_at at (rule_over name parts))
 premise_some name parts at some lt =
@@ -88,11 +88,8 @@ must_hold f ps name parts i some lt e =
 
 -- a node is right, or is not
 
-no_side : (sides : List SideCondition) → sides ≡ [] → All SideHolds sides
-no_side sides e = rw e (λ k d lt. absurd (omega arith))
-
-pub right_node : (before : List Meaning) (name : RuleName) (parts premises : List ℕ) (P : Option (List Thing)) → things_at before parts ≡ P → IsSome (rule_over name P) → conclusions_at before premises ≡ wants_of (rule_over name P) → (J : Judgement) × RightNode before name parts premises J × (conclusion_of_rule (rule_over name P) ≡ Some J)
-right_node before name parts premises P eP some hold =
+pub right_node : (before : List Meaning) (name : RuleName) (parts premises : List ℕ) (P : Option (List Thing)) → things_at before parts ≡ P → IsSome (rule_over name P) → conclusions_at before premises ≡ wants_of (rule_over name P) → All SideHolds (sides_of (rule_over name P)) → (J : Judgement) × RightNode before name parts premises J × (conclusion_of_rule (rule_over name P) ≡ Some J)
+right_node before name parts premises P eP some hold sides =
     let t = rule_there name P some in (
       t.rule.gives,
       record {
@@ -100,7 +97,7 @@ right_node before name parts premises P eP some hold =
         Js = t.rule.wants;
         parts_are = eP ∙ t.parts_are;
         premises_are = hold ∙ ap wants_of t.is;
-        instance = record { rule = t.rule; is = t.at; wants = refl; sides = no_side t.rule.sides t.sides; gives = refl };
+        instance = record { rule = t.rule; is = t.at; wants = refl; sides = subst (λ o. All SideHolds (sides_of o)) t.is sides; gives = refl };
       },
       ap conclusion_of_rule t.is,
     )
@@ -116,3 +113,9 @@ wrong_premises before name parts premises P eP wrong J r =
     let p : P ≡ Some r.xs = sym eP ∙ r.parts_are in
     let is : rule_over name P ≡ Some r.instance.rule = ap (rule_over name) p ∙ r.instance.is in
     wrong (r.premises_are ∙ ap Some r.instance.wants ∙ sym (ap wants_of is))
+
+pub wrong_sides : (before : List Meaning) (name : RuleName) (parts premises : List ℕ) (P : Option (List Thing)) → things_at before parts ≡ P → (All SideHolds (sides_of (rule_over name P)) → ⊥) → (J : Judgement) → RightNode before name parts premises J → ⊥
+wrong_sides before name parts premises P eP wrong J r =
+    let p : P ≡ Some r.xs = sym eP ∙ r.parts_are in
+    let is : rule_over name P ≡ Some r.instance.rule = ap (rule_over name) p ∙ r.instance.is in
+    wrong (subst (λ o. All SideHolds (sides_of o)) (sym is) r.instance.sides)

@@ -4,3 +4,4 @@ pub mod Named
 pub mod Premises
 pub mod Meant
 pub mod Verdicts
+pub mod Sides

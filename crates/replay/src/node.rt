@@ -9,17 +9,20 @@ ghost use Rattle.trees.specs.Things.{Kept};
 ghost use Rattle.trees.specs.Claimed.{claimed};
 ghost use Rattle.rows.specs.Shown.{things, store_means};
 ghost use Rattle.rules.specs.Claims.{premise_at};
+ghost use Rattle.rules.specs.Sides.{SideHolds};
 ghost use Rattle.derivation.specs.Meanings.{conclusion_at, conclusions_at};
 ghost use Rattle.derivation.specs.Right.{RightNode};
 ghost use Rattle.replay.specs.Filed.{file_meanings, AllFiled, AllFit, wants_of};
 ghost use Rattle.replay.specs.Premises.{rule_at_rows};
+ghost use Rattle.replay.specs.Sides.{Keeps, sides_of};
 
 use crate::filed::Filed;
 use crate::filed_rows::FiledRows;
 use crate::named::named_rows;
 use compare::Comparison;
 use rows::RowStore;
-use rules::{concluded, wanted};
+use rules::{concluded, side, wanted};
+use side_conditions::SideConditions;
 use std::alloc::{AllocError, Global};
 use theory::{Claim, RuleName, count_premises, part_kinds};
 
@@ -83,10 +86,41 @@ fn premises_hold(
     Ok(true)
 }
 
-/// The conclusion of a node, if it is an instance of its rule. No rule so far has a side condition.
+/// Whether all side conditions of a rule hold. The store is as before.
+fn sides_hold(
+    alloc: Global,
+    sides: &mut SideConditions,
+    store: &mut RowStore,
+    rule: RuleName,
+    rows: &[u64],
+) -> Result<bool, AllocError>
+    requires parts { IsSome (rule_at_rows (things store.old) rule rows.now) }
+    requires keeps { Keeps sides.old store.old }
+    ensures kept { Kept (store_means store.old) (store_means store.new) }
+    ensures same { OnOk result (things store.new ≡ things store.old) }
+    ensures keeps { Keeps sides.new store.new }
+    ensures hold { let rule = rule_at_rows (things store.old) rule rows.now in
+        IfOk result (λ hold. IsTrue hold ↔ All SideHolds (sides_of rule)) }
+{
+    let len = store.len();
+    let mut at = 0;
+    while let Some(test) = side(store, rule, rows, at)? {
+        let holds = sides.decide(alloc, store, test, len as u64)?;
+        store.truncate(len);
+        if !holds {
+            return Ok(false);
+        }
+        at += 1;
+    }
+    store.truncate(len);
+    Ok(true)
+}
+
+/// The conclusion of a node, if it is an instance of its rule.
 pub fn node_claim(
     alloc: Global,
     comparison: &mut Comparison,
+    sides: &mut SideConditions,
     store: &mut RowStore,
     filed: &FiledRows,
     rule: RuleName,
@@ -99,7 +133,9 @@ pub fn node_claim(
     requires premises { length premises.now ≡ premises_of rule }
     requires earlier_parts { All (λ k. k < length filed.now) parts.now }
     requires earlier_premises { All (λ k. k < length filed.now) premises.now }
+    requires keeps { Keeps sides.old store.old }
     ensures kept { Kept (store_means store.old) (store_means store.new) }
+    ensures keeps { Keeps sides.new store.new }
     ensures some { let before = file_meanings (things store.old) filed.now in
         IfOk result (λ found. IfSome found (λ claim. (J : Judgement) ×
         RightNode before rule parts.now premises.now J ×
@@ -112,6 +148,9 @@ pub fn node_claim(
         return Ok(None);
     };
     if !premises_hold(comparison, store, filed, rule, &rows, premises)? {
+        return Ok(None);
+    }
+    if !sides_hold(alloc, sides, store, rule, &rows)? {
         return Ok(None);
     }
     Ok(Some(concluded(store, rule, &rows)?))

@@ -6,6 +6,7 @@ ghost use Rattle.rows.specs.Shown.{things, store_means};
 ghost use Rattle.deriv_file.specs.Spelling.{MayStand};
 ghost use Rattle.deriv_file.specs.declared.row.Row.TheVariants as row;
 ghost use Rattle.replay.specs.Filed.{file_meanings, AllFiled, AllFit, FiledIs};
+ghost use Rattle.replay.specs.Sides.{Keeps};
 
 use crate::filed::Filed;
 use crate::filed_rows::FiledRows;
@@ -14,6 +15,7 @@ use crate::thing::thing_row;
 use compare::Comparison;
 use deriv_file::Row;
 use rows::RowStore;
+use side_conditions::SideConditions;
 use std::alloc::{AllocError, Global};
 
 /// What is kept of a root row, where what it names is a node.
@@ -34,6 +36,7 @@ fn filed_root(store: &RowStore, filed: &FiledRows, node: u64) -> Option<Filed>
 fn filed_of(
     alloc: Global,
     comparison: &mut Comparison,
+    sides: &mut SideConditions,
     store: &mut RowStore,
     filed: &FiledRows,
     row: &Row,
@@ -41,7 +44,9 @@ fn filed_of(
     requires filed { AllFiled (things store.old) filed.now }
     requires fit { AllFit (file_meanings (things store.old) filed.now) }
     requires stands { (version : ℕ) × MayStand version (length filed.now) row.now }
+    requires keeps { Keeps sides.old store.old }
     ensures kept { Kept (store_means store.old) (store_means store.new) }
+    ensures keeps { Keeps sides.new store.new }
     ensures is { let before = file_meanings (things store.old) filed.now in
         IfOk result (FiledIs before (things store.new) row.now) }
 {
@@ -55,7 +60,9 @@ fn filed_of(
         Row::Header(_) => Ok(None),
         Row::Node(rule, parts, premises) => {
             let (parts, premises) = (parts.as_slice(), premises.as_slice());
-            match node_claim(alloc, comparison, store, filed, *rule, parts, premises)? {
+            match node_claim(
+                alloc, comparison, sides, store, filed, *rule, parts, premises,
+            )? {
                 Some(claim) => Ok(Some(Filed::Node(claim))),
                 None => Ok(None),
             }
@@ -72,6 +79,7 @@ fn filed_of(
 #[derive(Drop)]
 pub struct RowJudge {
     comparison: Comparison,
+    sides: SideConditions,
     store: RowStore,
     filed: FiledRows,
     ghost all_filed: { AllFiled (things store) filed },
@@ -84,12 +92,15 @@ impl RowJudge {
     ghost use Rattle.derivation.specs.Meanings.{Meaning};
     ghost use Rattle.derivation.specs.Right.{RightRow};
     ghost use Rattle.replay.specs.Meant.{meant_by};
+    ghost use Rattle.replay.specs.Sides.{Keeps};
 
     pub fn new(alloc: Global) -> RowJudge
-        ensures { meant_by result ≡ [] }
+        ensures meant { meant_by result ≡ [] }
+        ensures keeps { Keeps result.sides result.store }
     {
         RowJudge {
             comparison: Comparison::new(alloc),
+            sides: SideConditions::new(),
             store: RowStore::new(alloc),
             filed: FiledRows::new(alloc),
         }
@@ -105,7 +116,9 @@ impl RowJudge {
     /// Adds a row that may stand at its place, if it is right. The answer says whether it is. Else,
     /// and out of memory, the rows are as before.
     pub fn add(&mut self, alloc: Global, row: &Row) -> Result<bool, AllocError>
-        requires { (version : ℕ) × MayStand version (length (meant_by self.old)) row.now }
+        requires stands { (version : ℕ) × MayStand version (length (meant_by self.old)) row.now }
+        requires keeps { Keeps self.old.sides self.old.store }
+        ensures keeps { Keeps self.new.sides self.new.store }
         ensures right { IfOk result (λ right. right ≡ true → (m : Meaning) ×
             RightRow (meant_by self.old) row.now m ×
             (meant_by self.new ≡ meant_by self.old ++ m ∷ [])) }
@@ -117,6 +130,7 @@ impl RowJudge {
         let filed = filed_of(
             alloc,
             &mut self.comparison,
+            &mut self.sides,
             &mut self.store,
             &self.filed,
             row,

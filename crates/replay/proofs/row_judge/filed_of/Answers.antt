@@ -4,6 +4,7 @@ use Rattle.rows.specs.Shown.{things}
 use Rattle.derivation.specs.Meanings.{Concludes}
 use Rattle.replay.specs.Filed.{file_meanings}
 use Rattle.replay.proofs.RowLaws.{filed_thing, node_right, node_wrong, some_filed, not_empty}
+use Rattle.replay.proofs.SideLaws.{keeps-grown}
 use Rattle.replay.proofs.row_judge.filed_of.Goals as goal
 
 pub returns-in-Some-clause-is : goal.returns-in-Some-clause-is
@@ -31,5 +32,6 @@ returns-in-Some-2 c =
     let made = rw c.in-Some-2.is at c.in_ok-at-in_default-row.ensures.made in
     record {
       kept = c.thing_row.ensures.kept;
+      keeps = keeps-grown c.args.sides.now xs (things c.thing_row.new.store) c.thing_row.ensures.kept c.requires.keeps;
       is = filed_thing xs es (not_empty es _ c.if-is_empty.false c.is_empty.ensures) (things c.thing_row.new.store) c.args.row.now c.in-Some-2.at made;
     }

@@ -27,7 +27,7 @@ invariant_of-self-2 c =
     let there : FiledIs (file_meanings xs c.args.self.now.filed) ys c.args.row.now (Some c.in-Some.row) = rw c.in-Some.is at c.in_ok-filed.ensures.is in
     record {
       all_filed = all_pushed c.push.result ys es c.push.new.self c.in-Some.row there.0 (all-later xs ys c.filed_of.ensures.kept es c.args.self.now.all_filed) there.2 c.push.ensures.ok c.push.ensures.err;
-      all_fit = fit_pushed c.push.result ys es c.push.new.self c.in-Some.row there.0 (later_fit xs ys c.filed_of.ensures.kept es c.args.self.now.all_filed c.args.self.now.all_fit) there.2 (row_fits c.requires.0 (length (file_meanings xs es)) (file_meanings xs es) c.args.row.now there.0 c.args.self.now.all_fit c.requires.1 there.1) c.push.ensures.ok c.push.ensures.err;
+      all_fit = fit_pushed c.push.result ys es c.push.new.self c.in-Some.row there.0 (later_fit xs ys c.filed_of.ensures.kept es c.args.self.now.all_filed c.args.self.now.all_fit) there.2 (row_fits c.requires.stands.0 (length (file_meanings xs es)) (file_meanings xs es) c.args.row.now there.0 c.args.self.now.all_fit c.requires.stands.1 there.1) c.push.ensures.ok c.push.ensures.err;
     }
 
 pub returns-clause-right : goal.returns-clause-right
