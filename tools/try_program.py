@@ -1,13 +1,17 @@
 #!/usr/bin/env python3
-"""Runs the program, without proofs, on words and files, and compares what it prints and how it ends.
+"""Runs the program, without proofs, on words and files, and compares what it prints and how it
+ends.
 
-The one run that the gate makes of the program has no words, so this looks at how it reads them and the disk.
-`rt try --cases` builds the program once; each case is a file, the words with `{}` for its path, a line and a status.
+The one run that the gate makes of the program has no words, so this looks at how it reads them and
+the disk. `rt try --cases` builds the program once; each case is a file, the words with `{}` for its
+path, a line and a status. `rule_cases.py` has those of the rules.
 """
 import pathlib
 import subprocess
 import sys
 import tempfile
+
+import rule_cases
 
 ROOT = pathlib.Path(__file__).resolve().parent.parent
 TWO = (ROOT / "examples" / "two.drv").read_text()
@@ -21,7 +25,7 @@ CASES = {
     "other_word": (TWO, ["judge", "{}"], USAGE, 2),
     "no_words": (TWO, [], USAGE, 2),
     "after_dashes": (TWO, ["replay", "--", "{}"], YES, 0),
-}
+} | rule_cases.cases()
 
 
 def lay_out(folder):
@@ -44,8 +48,8 @@ def ended(said):
 def main():
     with tempfile.TemporaryDirectory() as folder:
         lay_out(folder)
-        ran = subprocess.run(["rt", "try", "--cases", folder], cwd=ROOT / "crates" / "ctt", text=True,
-                             stdout=subprocess.PIPE, stderr=subprocess.STDOUT)
+        ran = subprocess.run(["rt", "try", "--cases", folder], cwd=ROOT / "crates" / "ctt",
+                             text=True, stdout=subprocess.PIPE, stderr=subprocess.STDOUT)
     wanted = {name: status for name, (_, _, _, status) in CASES.items()}
     found = ended(ran.stdout)
     wrong = [name for name, status in wanted.items() if found.get(name) != status]

@@ -13,7 +13,7 @@ use Rattle.side_conditions.proofs.KeptLaws.{keeps-as, keeps-more}
 use Rattle.rules.specs.Sides.{SideHolds}
 use Rattle.rules.specs.Rules.{rule_at}
 use Rattle.rules.specs.Claims.{rule_over, side_at, sides_in}
-use Rattle.rules.proofs.TableLaws.{no_sides}
+use Rattle.rules.proofs.TableLaws.{sides-few}
 use Rattle.theory.specs.declared.rule.RuleName.{RuleName}
 use Rattle.replay.specs.Sides.{sides_of}
 use Rattle.replay.proofs.FiledLaws.{take-kept}
@@ -73,13 +73,13 @@ side_some (Some r) at lt = there r.sides at lt
     there (c ∷ cs) (suc k) lt = there cs k (omega arith)
 
 -- a rule has few
-pub sides-few : (name : RuleName) (parts : Option (List Thing)) → sides_in (rule_over name parts) ≤ 16
-sides-few name None = omega arith
-sides-few name (Some xs) = at_most (rule_at name xs) refl
+pub few : (name : RuleName) (parts : Option (List Thing)) → sides_in (rule_over name parts) ≤ 16
+few name None = omega arith
+few name (Some xs) = at_most (rule_at name xs) refl
   where
     at_most : (o : Option TreeRule) → rule_at name xs ≡ o → sides_in o ≤ 16
     at_most None e = omega arith
-    at_most (Some r) e = let none = ap length (no_sides name xs r e) in omega arith
+    at_most (Some r) e = sides-few name xs r e
 
 -- the first side conditions hold
 

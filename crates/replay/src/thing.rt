@@ -13,6 +13,7 @@ ghost use Rattle.replay.specs.Filed.{file_meanings, AllFiled, MadeAs};
 
 use crate::filed_rows::FiledRows;
 use crate::named::{named, named_rows, named_two};
+use PartKind::{Context, Subst, Term};
 use deriv_file::Row;
 use rows::{Maker, RowStore};
 use std::alloc::{AllocError, Global};
@@ -61,57 +62,33 @@ pub fn thing_row(
         Row::Var(index) => Ok(Some(store.var(*index)?)),
         Row::Make(op, kids) => Ok(made_row(alloc, store, filed, *op, kids.as_slice())?),
         Row::Instance(term, sub) => {
-            let named = named_two(
-                store,
-                filed,
-                (*term, PartKind::Term),
-                (*sub, PartKind::Subst),
-            );
-            let Some((term, sub)) = named else {
+            let Some((term, sub)) = named_two(store, filed, (*term, Term), (*sub, Subst)) else {
                 return Ok(None);
             };
             Ok(Some(store.instance(term, sub)?))
         }
         Row::Shift(by) => Ok(Some(store.shift(*by)?)),
         Row::Push(sub, term) => {
-            let named = named_two(
-                store,
-                filed,
-                (*sub, PartKind::Subst),
-                (*term, PartKind::Term),
-            );
-            let Some((sub, term)) = named else {
+            let Some((sub, term)) = named_two(store, filed, (*sub, Subst), (*term, Term)) else {
                 return Ok(None);
             };
             Ok(Some(store.push(sub, term)?))
         }
         Row::CtxNil => Ok(Some(store.ctx_nil()?)),
         Row::CtxVar(ctx, ty) => {
-            let named = named_two(
-                store,
-                filed,
-                (*ctx, PartKind::Context),
-                (*ty, PartKind::Term),
-            );
-            let Some((ctx, ty)) = named else {
+            let Some((ctx, ty)) = named_two(store, filed, (*ctx, Context), (*ty, Term)) else {
                 return Ok(None);
             };
             Ok(Some(store.ctx_var(ctx, ty)?))
         }
         Row::CtxName(ctx) => {
-            let Some(ctx) = named(store, filed, *ctx, PartKind::Context) else {
+            let Some(ctx) = named(store, filed, *ctx, Context) else {
                 return Ok(None);
             };
             Ok(Some(store.ctx_name(ctx)?))
         }
         Row::CtxFace(ctx, face) => {
-            let named = named_two(
-                store,
-                filed,
-                (*ctx, PartKind::Context),
-                (*face, PartKind::Term),
-            );
-            let Some((ctx, face)) = named else {
+            let Some((ctx, face)) = named_two(store, filed, (*ctx, Context), (*face, Term)) else {
                 return Ok(None);
             };
             Ok(Some(store.ctx_face(ctx, face)?))

@@ -1,5 +1,5 @@
 -- Facts on every rule of the table.
-use Rattle.std.proofs.Common.{rules, ◌≡◌, List, [], ◌∷◌, length, refl, sym, ◌∙◌, ap, Some, IsSome, map}
+use Rattle.std.proofs.Common.{rules, ◌≡◌, ◌≤◌, List, [], ◌∷◌, length, refl, sym, ◌∙◌, ap, Some, IsSome, map}
 use Rattle.trees.specs.declared.kind.PartKind.{PartKind}
 use Rattle.trees.specs.declared.kind.PartKind.TheVariants as part
 use Rattle.theory.specs.declared.rule.ContextRule.TheVariants.{CtxNil}
@@ -39,24 +39,24 @@ counted (Paths _) = search rules
 counted (Naturals NatU) = search rules
 counted (Naturals _) = search rules
 
--- no rule so far has a side condition
-sideless : (name : RuleName) → AtAll name (λ xs r. r.sides ≡ [])
-sideless (Contexts CtxNil) = search rules
-sideless (Contexts _) = search rules
-sideless (Instances TySub) = search rules
-sideless (Instances _) = search rules
-sideless (Equality TyEqRefl) = search rules
-sideless (Equality _) = search rules
-sideless (Universe TyUniv) = search rules
-sideless (Universe _) = search rules
-sideless (Pi PiTy) = search rules
-sideless (Pi _) = search rules
-sideless (Sigma SigTy) = search rules
-sideless (Sigma _) = search rules
-sideless (Paths PathTy) = search rules
-sideless (Paths _) = search rules
-sideless (Naturals NatU) = search rules
-sideless (Naturals _) = search rules
+-- the side conditions of a rule are few
+few : (name : RuleName) → AtAll name (λ xs r. length r.sides ≤ 16)
+few (Contexts CtxNil) = search rules
+few (Contexts _) = search rules
+few (Instances TySub) = search rules
+few (Instances _) = search rules
+few (Equality TyEqRefl) = search rules
+few (Equality _) = search rules
+few (Universe TyUniv) = search rules
+few (Universe _) = search rules
+few (Pi PiTy) = search rules
+few (Pi _) = search rules
+few (Sigma SigTy) = search rules
+few (Sigma _) = search rules
+few (Paths PathTy) = search rules
+few (Paths _) = search rules
+few (Naturals NatU) = search rules
+few (Naturals _) = search rules
 
 -- what holds at all parts holds of the rule at these
 pub at_these : (name : RuleName) (P : List Thing → TreeRule → Type 0) → AtAll name P → (xs : List Thing) (r : TreeRule) → rule_at name xs ≡ Some r → P xs r
@@ -70,8 +70,8 @@ at_these name P h xs r e =
 pub wants-count : (name : RuleName) (xs : List Thing) (r : TreeRule) → rule_at name xs ≡ Some r → length r.wants ≡ premises_of name
 wants-count name = at_these name (λ xs r. length r.wants ≡ premises_of name) (counted name)
 
-pub no_sides : (name : RuleName) (xs : List Thing) (r : TreeRule) → rule_at name xs ≡ Some r → r.sides ≡ []
-no_sides name = at_these name (λ xs r. r.sides ≡ []) (sideless name)
+pub sides-few : (name : RuleName) (xs : List Thing) (r : TreeRule) → rule_at name xs ≡ Some r → length r.sides ≤ 16
+sides-few name = at_these name (λ xs r. length r.sides ≤ 16) (few name)
 
 -- a rule stands at parts exactly where they have its kinds
 

@@ -5,15 +5,17 @@ use Rattle.trees.specs.declared.op.Op.TheVariants as op
 use Rattle.trees.specs.declared.kind.PartKind.{PartKind}
 use Rattle.trees.specs.declared.kind.PartKind.TheVariants as part
 use Rattle.theory.specs.declared.rule.ContextRule.{ContextRule}
-use Rattle.theory.specs.declared.rule.ContextRule.TheVariants.{CtxNil, CtxVar, CtxName, SubId}
-use Rattle.theory.specs.declared.rule.ContextRule.TheVariants.{SubWk, SubWkName, SubVar, SubComp}
+use Rattle.theory.specs.declared.rule.ContextRule.TheVariants.{CtxNil, CtxVar, CtxName, CtxFace}
+use Rattle.theory.specs.declared.rule.ContextRule.TheVariants.{SubId, SubWk, SubWkName, SubWkFace}
+use Rattle.theory.specs.declared.rule.ContextRule.TheVariants.{SubVar, SubForm, SubFace, SubComp}
 use Rattle.theory.specs.declared.rule.InstanceRule.{InstanceRule}
 use Rattle.theory.specs.declared.rule.InstanceRule.TheVariants.{TySub, TyEqSub, TmSub, TmEqSub}
-use Rattle.theory.specs.declared.rule.InstanceRule.TheVariants.{TyCong, TmCong, TmVar}
+use Rattle.theory.specs.declared.rule.InstanceRule.TheVariants.{TyCong, TmCong, TyInt, TmInt, TmVar}
 use Rattle.theory.specs.declared.rule.EqualityRule.{EqualityRule}
 use Rattle.theory.specs.declared.rule.EqualityRule.TheVariants.{TyEqRefl, TyEqSym, TyEqTrans}
 use Rattle.theory.specs.declared.rule.EqualityRule.TheVariants.{TmEqRefl, TmEqSym, TmEqTrans}
-use Rattle.theory.specs.declared.rule.EqualityRule.TheVariants.{TmConv, TmEqConv}
+use Rattle.theory.specs.declared.rule.EqualityRule.TheVariants.{TmConv, TmEqConv, TyEqCover}
+use Rattle.theory.specs.declared.rule.EqualityRule.TheVariants.{TmEqCover, TyEqAbsurd, TmEqAbsurd}
 use Rattle.theory.specs.declared.rule.UniverseRule.{UniverseRule}
 use Rattle.theory.specs.declared.rule.UniverseRule.TheVariants.{TyUniv, TyU, TyEqU}
 use Rattle.theory.specs.declared.rule.PiRule.{PiRule}
@@ -25,14 +27,15 @@ use Rattle.theory.specs.declared.rule.SigmaRule.TheVariants.{Fst, Snd, FstCong, 
 use Rattle.theory.specs.declared.rule.SigmaRule.TheVariants.{SigBeta2, SigEta}
 use Rattle.theory.specs.declared.rule.PathRule.{PathRule}
 use Rattle.theory.specs.declared.rule.PathRule.TheVariants.{PathTy, PathU, PathTyCong, PathUCong}
-use Rattle.theory.specs.declared.rule.PathRule.TheVariants.{PLam, PathLeft, PathRight, PathEta}
+use Rattle.theory.specs.declared.rule.PathRule.TheVariants.{PLam, PApp, PAppCong, PathLeft}
+use Rattle.theory.specs.declared.rule.PathRule.TheVariants.{PathRight, PathBeta, PathEta}
 use Rattle.theory.specs.declared.rule.NatRule.{NatRule}
 use Rattle.theory.specs.declared.rule.NatRule.TheVariants.{NatU, Zero, Suc, SucCong, NatRec}
 use Rattle.theory.specs.declared.rule.NatRule.TheVariants.{NatRecCong, NatRecZero, NatRecSuc}
 use Rattle.theory.specs.declared.rule.RuleName.{RuleName}
 use Rattle.theory.specs.declared.rule.RuleName.TheVariants.{Contexts, Instances, Equality, Universe}
 use Rattle.theory.specs.declared.rule.RuleName.TheVariants.{Pi, Sigma, Paths, Naturals}
-use Rattle.trees.specs.Language.{Language, Rule, Ctx, Ty, TyEq, Tm, TmEq, Sb}
+use Rattle.trees.specs.Language.{Language, JudgementOf, Rule, Ctx, Ty, TyEq, Tm, TmEq, Sb}
 use Rattle.trees.specs.Language.{IsFormula, IsFace, Holds, Alike}
 use Rattle.theory.specs.RuleNames.{kinds_of}
 
@@ -128,6 +131,40 @@ module _ (L : Language) where
 
   -- Written by tools/write_rules.py from here on.
 
+  -- What rules of types of a type and a family over it share; F forms the type.
+
+  -- F.ty | G A B | G >> A; G.A >> B | G >> F A B
+  abbrev pub former_ty : (tree → tree → tree) → Over (kinds_of (Pi PiTy))
+  former_ty F = λ G A B. record {
+    wants = Ty G A ∷ Ty (with_var G A) B ∷ [];
+    sides = [];
+    gives = Ty G (F A B);
+  }
+
+  -- F.u | G A B | G >> A : U; G.A >> B : U | G >> F A B : U
+  abbrev pub former_u : (tree → tree → tree) → Over (kinds_of (Pi PiU))
+  former_u F = λ G A B. record {
+    wants = Tm G A universe ∷ Tm (with_var G A) B universe ∷ [];
+    sides = [];
+    gives = Tm G (F A B) universe;
+  }
+
+  -- F.tycong | G A C B D | G >> A = C; G.A >> B = D | G >> F A B = F C D
+  abbrev pub former_tycong : (tree → tree → tree) → Over (kinds_of (Pi PiTyCong))
+  former_tycong F = λ G A C B D. record {
+    wants = TyEq G A C ∷ TyEq (with_var G A) B D ∷ [];
+    sides = [];
+    gives = TyEq G (F A B) (F C D);
+  }
+
+  -- F.ucong | G A C B D | G >> A = C : U; G.A >> B = D : U | G >> F A B = F C D : U
+  abbrev pub former_ucong : (tree → tree → tree) → Over (kinds_of (Pi PiUCong))
+  former_ucong F = λ G A C B D. record {
+    wants = TmEq G A C universe ∷ TmEq (with_var G A) B D universe ∷ [];
+    sides = [];
+    gives = TmEq G (F A B) (F C D) universe;
+  }
+
   -- The rules that conclude a context or a substitution.
 
   abbrev pub context_rule : (name : ContextRule) → Over (kinds_of (Contexts name))
@@ -141,6 +178,12 @@ module _ (L : Language) where
   }
   -- ctx.name | G | ctx G | ctx G.I
   context_rule CtxName = λ G. record { wants = Ctx G ∷ []; sides = []; gives = Ctx (with_name G) }
+  -- ctx.face | G p | ctx G if IsFace(G, p) | ctx G.p
+  context_rule CtxFace = λ G p. record {
+    wants = Ctx G ∷ [];
+    sides = IsFace G p ∷ [];
+    gives = Ctx (with_face G p);
+  }
   -- sub.id | G | ctx G | id : G to G
   context_rule SubId = λ G. record { wants = Ctx G ∷ []; sides = []; gives = Sb G id G }
   -- sub.wk | H d G A | d : H to G; H >> A | d then up : H.A to G
@@ -155,11 +198,29 @@ module _ (L : Language) where
     sides = [];
     gives = Sb (with_name H) (then d up) G;
   }
+  -- sub.wkface | H d G p | d : H to G if IsFace(H, p) | d : H.p to G
+  context_rule SubWkFace = λ H d G p. record {
+    wants = Sb H d G ∷ [];
+    sides = IsFace H p ∷ [];
+    gives = Sb (with_face H p) d G;
+  }
   -- sub.var | H d G A a | d : H to G; G >> A; H >> a : A[d] | push d a : H to G.A
   context_rule SubVar = λ H d G A a. record {
     wants = Sb H d G ∷ Ty G A ∷ Tm H a (apply A d) ∷ [];
     sides = [];
     gives = Sb H (push d a) (with_var G A);
+  }
+  -- sub.form | H d G r | d : H to G if IsFormula(H, r) | push d r : H to G.I
+  context_rule SubForm = λ H d G r. record {
+    wants = Sb H d G ∷ [];
+    sides = IsFormula H r ∷ [];
+    gives = Sb H (push d r) (with_name G);
+  }
+  -- sub.face | H d G p | d : H to G if IsFace(G, p), Holds(H, p[d]) | d : H to G.p
+  context_rule SubFace = λ H d G p. record {
+    wants = Sb H d G ∷ [];
+    sides = IsFace G p ∷ Holds H (apply p d) ∷ [];
+    gives = Sb H d (with_face G p);
   }
   -- sub.comp | K e H d G | e : K to H; d : H to G | d then e : K to G
   context_rule SubComp = λ K e H d G. record {
@@ -208,6 +269,19 @@ module _ (L : Language) where
     wants = Sb H d G ∷ Tm (with_var G A) c B ∷ TmEq H a b (apply A d) ∷ [];
     sides = [];
     gives = TmEq H (apply c (push d a)) (apply c (push d b)) (apply B (push d a));
+  }
+  -- ty.int | H d e G B | d : H to G; e : H to G; G >> B if Alike(H, d, e) | H >> B[d] = B[e]
+  instance_rule TyInt = λ H d e G B. record {
+    wants = Sb H d G ∷ Sb H e G ∷ Ty G B ∷ [];
+    sides = Alike H d e ∷ [];
+    gives = TyEq H (apply B d) (apply B e);
+  }
+  -- tm.int | H d e G c B | d : H to G; e : H to G; G >> c : B if Alike(H, d, e)
+  --   | H >> c[d] = c[e] : B[d]
+  instance_rule TmInt = λ H d e G c B. record {
+    wants = Sb H d G ∷ Sb H e G ∷ Tm G c B ∷ [];
+    sides = Alike H d e ∷ [];
+    gives = TmEq H (apply c d) (apply c e) (apply B d);
   }
   -- tm.var | G A | G >> A | G.A >> var 0 : A+
   instance_rule TmVar = λ G A. record {
@@ -263,6 +337,32 @@ module _ (L : Language) where
     sides = [];
     gives = TmEq G a b B;
   }
+  -- tyeq.cover | G p q A B | G >> A; G >> B; G.p >> A = B; G.q >> A = B
+  --   if IsFace(G, p), IsFace(G, q), Holds(G, join p q) | G >> A = B
+  equality_rule TyEqCover = λ G p q A B. record {
+    wants = Ty G A ∷ Ty G B ∷ TyEq (with_face G p) A B ∷ TyEq (with_face G q) A B ∷ [];
+    sides = IsFace G p ∷ IsFace G q ∷ Holds G (join p q) ∷ [];
+    gives = TyEq G A B;
+  }
+  -- tmeq.cover | G p q a b A | G >> a : A; G >> b : A; G.p >> a = b : A; G.q >> a = b : A
+  --   if IsFace(G, p), IsFace(G, q), Holds(G, join p q) | G >> a = b : A
+  equality_rule TmEqCover = λ G p q a b A. record {
+    wants = Tm G a A ∷ Tm G b A ∷ TmEq (with_face G p) a b A ∷ TmEq (with_face G q) a b A ∷ [];
+    sides = IsFace G p ∷ IsFace G q ∷ Holds G (join p q) ∷ [];
+    gives = TmEq G a b A;
+  }
+  -- tyeq.absurd | G A B | G >> A; G >> B if Holds(G, f0) | G >> A = B
+  equality_rule TyEqAbsurd = λ G A B. record {
+    wants = Ty G A ∷ Ty G B ∷ [];
+    sides = Holds G f0 ∷ [];
+    gives = TyEq G A B;
+  }
+  -- tmeq.absurd | G a b A | G >> a : A; G >> b : A if Holds(G, f0) | G >> a = b : A
+  equality_rule TmEqAbsurd = λ G a b A. record {
+    wants = Tm G a A ∷ Tm G b A ∷ [];
+    sides = Holds G f0 ∷ [];
+    gives = TmEq G a b A;
+  }
 
   -- The rules of the universe.
 
@@ -282,29 +382,13 @@ module _ (L : Language) where
 
   abbrev pub pi_rule : (name : PiRule) → Over (kinds_of (Pi name))
   -- pi.ty | G A B | G >> A; G.A >> B | G >> pi A B
-  pi_rule PiTy = λ G A B. record {
-    wants = Ty G A ∷ Ty (with_var G A) B ∷ [];
-    sides = [];
-    gives = Ty G (pi A B);
-  }
+  pi_rule PiTy = former_ty pi
   -- pi.u | G A B | G >> A : U; G.A >> B : U | G >> pi A B : U
-  pi_rule PiU = λ G A B. record {
-    wants = Tm G A universe ∷ Tm (with_var G A) B universe ∷ [];
-    sides = [];
-    gives = Tm G (pi A B) universe;
-  }
+  pi_rule PiU = former_u pi
   -- pi.tycong | G A C B D | G >> A = C; G.A >> B = D | G >> pi A B = pi C D
-  pi_rule PiTyCong = λ G A C B D. record {
-    wants = TyEq G A C ∷ TyEq (with_var G A) B D ∷ [];
-    sides = [];
-    gives = TyEq G (pi A B) (pi C D);
-  }
+  pi_rule PiTyCong = former_tycong pi
   -- pi.ucong | G A C B D | G >> A = C : U; G.A >> B = D : U | G >> pi A B = pi C D : U
-  pi_rule PiUCong = λ G A C B D. record {
-    wants = TmEq G A C universe ∷ TmEq (with_var G A) B D universe ∷ [];
-    sides = [];
-    gives = TmEq G (pi A B) (pi C D) universe;
-  }
+  pi_rule PiUCong = former_ucong pi
   -- lam | G A b B | G >> A; G.A >> b : B | G >> lam A b : pi A B
   pi_rule Lam = λ G A b B. record {
     wants = Ty G A ∷ Tm (with_var G A) b B ∷ [];
@@ -343,34 +427,22 @@ module _ (L : Language) where
 
   -- The rules of pairs.
 
+  -- the premises of pair
+  abbrev pub pair_wants : context → tree → tree → tree → tree → List (JudgementOf L)
+  pair_wants G a b A B = Ty (with_var G A) B ∷ Tm G a A ∷ Tm G b (at B a) ∷ []
+
   abbrev pub sigma_rule : (name : SigmaRule) → Over (kinds_of (Sigma name))
   -- sig.ty | G A B | G >> A; G.A >> B | G >> sig A B
-  sigma_rule SigTy = λ G A B. record {
-    wants = Ty G A ∷ Ty (with_var G A) B ∷ [];
-    sides = [];
-    gives = Ty G (sig A B);
-  }
+  sigma_rule SigTy = former_ty sig
   -- sig.u | G A B | G >> A : U; G.A >> B : U | G >> sig A B : U
-  sigma_rule SigU = λ G A B. record {
-    wants = Tm G A universe ∷ Tm (with_var G A) B universe ∷ [];
-    sides = [];
-    gives = Tm G (sig A B) universe;
-  }
+  sigma_rule SigU = former_u sig
   -- sig.tycong | G A C B D | G >> A = C; G.A >> B = D | G >> sig A B = sig C D
-  sigma_rule SigTyCong = λ G A C B D. record {
-    wants = TyEq G A C ∷ TyEq (with_var G A) B D ∷ [];
-    sides = [];
-    gives = TyEq G (sig A B) (sig C D);
-  }
+  sigma_rule SigTyCong = former_tycong sig
   -- sig.ucong | G A C B D | G >> A = C : U; G.A >> B = D : U | G >> sig A B = sig C D : U
-  sigma_rule SigUCong = λ G A C B D. record {
-    wants = TmEq G A C universe ∷ TmEq (with_var G A) B D universe ∷ [];
-    sides = [];
-    gives = TmEq G (sig A B) (sig C D) universe;
-  }
+  sigma_rule SigUCong = former_ucong sig
   -- pair | G a b A B | G.A >> B; G >> a : A; G >> b : B{a} | G >> pair a b : sig A B
   sigma_rule Pair = λ G a b A B. record {
-    wants = Ty (with_var G A) B ∷ Tm G a A ∷ Tm G b (at B a) ∷ [];
+    wants = pair_wants G a b A B;
     sides = [];
     gives = Tm G (pair a b) (sig A B);
   }
@@ -398,15 +470,15 @@ module _ (L : Language) where
     sides = [];
     gives = TmEq G (snd c) (snd k) (at B (fst c));
   }
-  -- sig.beta1 | G a b A B | G.A >> B; G >> a : A; G >> b : B{a} | G >> fst (pair a b) = a : A
+  -- sig.beta1 | G a b A B | premises of pair | G >> fst (pair a b) = a : A
   sigma_rule SigBeta1 = λ G a b A B. record {
-    wants = Ty (with_var G A) B ∷ Tm G a A ∷ Tm G b (at B a) ∷ [];
+    wants = pair_wants G a b A B;
     sides = [];
     gives = TmEq G (fst (pair a b)) a A;
   }
-  -- sig.beta2 | G a b A B | G.A >> B; G >> a : A; G >> b : B{a} | G >> snd (pair a b) = b : B{a}
+  -- sig.beta2 | G a b A B | premises of pair | G >> snd (pair a b) = b : B{a}
   sigma_rule SigBeta2 = λ G a b A B. record {
-    wants = Ty (with_var G A) B ∷ Tm G a A ∷ Tm G b (at B a) ∷ [];
+    wants = pair_wants G a b A B;
     sides = [];
     gives = TmEq G (snd (pair a b)) b (at B a);
   }
@@ -459,6 +531,19 @@ module _ (L : Language) where
     sides = [];
     gives = Tm G (plam b) (pathp A u v);
   }
+  -- papp | G c r A u v | G >> c : pathp A u v if IsFormula(G, r) | G >> papp c r : A{r}
+  path_rule PApp = λ G c r A u v. record {
+    wants = Tm G c (pathp A u v) ∷ [];
+    sides = IsFormula G r ∷ [];
+    gives = Tm G (papp c r) (at A r);
+  }
+  -- papp.cong | G c k r A u v | G >> c = k : pathp A u v if IsFormula(G, r)
+  --   | G >> papp c r = papp k r : A{r}
+  path_rule PAppCong = λ G c k r A u v. record {
+    wants = TmEq G c k (pathp A u v) ∷ [];
+    sides = IsFormula G r ∷ [];
+    gives = TmEq G (papp c r) (papp k r) (at A r);
+  }
   -- path.left | G c A u v | G >> c : pathp A u v | G >> papp c i0 = u : A{0}
   path_rule PathLeft = λ G c A u v. record {
     wants = Tm G c (pathp A u v) ∷ [];
@@ -470,6 +555,12 @@ module _ (L : Language) where
     wants = Tm G c (pathp A u v) ∷ [];
     sides = [];
     gives = TmEq G (papp c i1) v (at A i1);
+  }
+  -- path.beta | G A b r | G.I >> b : A if IsFormula(G, r) | G >> papp (plam b) r = b{r} : A{r}
+  path_rule PathBeta = λ G A b r. record {
+    wants = Tm (with_name G) b A ∷ [];
+    sides = IsFormula G r ∷ [];
+    gives = TmEq G (papp (plam b) r) (at b r) (at A r);
   }
   -- path.eta | G c k A u v | G >> c : pathp A u v; G >> k : pathp A u v;
   --   G.I >> papp c+ (var 0) = papp k+ (var 0) : A | G >> c = k : pathp A u v
@@ -484,6 +575,11 @@ module _ (L : Language) where
   }
 
   -- The rules of the natural numbers.
+
+  -- the premises of natrec
+  abbrev pub natrec_wants : context → tree → tree → tree → tree → List (JudgementOf L)
+  natrec_wants G P a b n =
+      Ty (with_var G nat) P ∷ Tm G a (at P zero) ∷ Tm G b (motive_step P) ∷ Tm G n nat ∷ []
 
   abbrev pub nat_rule : (name : NatRule) → Over (kinds_of (Naturals name))
   -- nat.u | G | ctx G | G >> nat : U
@@ -501,7 +597,7 @@ module _ (L : Language) where
   -- natrec | G P a b n | G.nat >> P; G >> a : P{zero}; G >> b : motive_step P; G >> n : nat
   --   | G >> natrec P a b n : P{n}
   nat_rule NatRec = λ G P a b n. record {
-    wants = Ty (with_var G nat) P ∷ Tm G a (at P zero) ∷ Tm G b (motive_step P) ∷ Tm G n nat ∷ [];
+    wants = natrec_wants G P a b n;
     sides = [];
     gives = Tm G (natrec P a b n) (at P n);
   }
@@ -525,10 +621,10 @@ module _ (L : Language) where
     sides = [];
     gives = TmEq G (natrec P a b zero) a (at P zero);
   }
-  -- natrec.suc | G P a b n | G.nat >> P; G >> a : P{zero}; G >> b : motive_step P; G >> n : nat
+  -- natrec.suc | G P a b n | premises of natrec
   --   | G >> natrec P a b (suc n) = app (app b n) (natrec P a b n) : P{suc n}
   nat_rule NatRecSuc = λ G P a b n. record {
-    wants = Ty (with_var G nat) P ∷ Tm G a (at P zero) ∷ Tm G b (motive_step P) ∷ Tm G n nat ∷ [];
+    wants = natrec_wants G P a b n;
     sides = [];
     gives = TmEq G (natrec P a b (suc n)) (app (app b n) (natrec P a b n)) (at P (suc n));
   }

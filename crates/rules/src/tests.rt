@@ -166,13 +166,14 @@ impl Maker for KnownRows {
     }
 }
 
-/// Over these parts the rule wants these premises, has no side condition, and gives that.
+/// Over these parts the rule wants these premises, has one side condition at most, and gives that.
 fn says(
     rt: &impl Abort,
     maker: &mut KnownRows,
     rule: RuleName,
     parts: &[u64],
     wants: &[Claim],
+    asks: Option<SideTest>,
     gives: Claim,
 ) -> Result<(), AllocError>
     requires parts { IsSome
@@ -184,7 +185,8 @@ fn says(
         let want = wants.get(at as usize).copied();
         assert_eq!(rt; Some(wanted(maker, rule, parts, at)?), want, "at {rule:?}");
     }
-    assert_eq!(rt; side(maker, rule, parts, 0)?, None, "at {rule:?}");
+    assert_eq!(rt; side(maker, rule, parts, 0)?, asks, "at {rule:?}");
+    assert_eq!(rt; side(maker, rule, parts, 1)?, None, "at {rule:?}");
     assert_eq!(rt; concluded(maker, rule, parts)?, gives, "at {rule:?}");
     Ok(())
 }
@@ -195,11 +197,24 @@ fn contexts_say(rt: HostRuntime) -> Result<(), Fail> {
     let maker = &mut KnownRows;
 
     let rule = RuleName::Contexts(ContextRule::CtxNil);
-    says(&rt, maker, rule, &[], &[], Claim::Ctx(NIL))?;
+    says(&rt, maker, rule, &[], &[], None, Claim::Ctx(NIL))?;
 
     let rule = RuleName::Contexts(ContextRule::CtxVar);
     let wants = [Claim::Ty(NIL, NAT)];
-    says(&rt, maker, rule, &[NIL, NAT], &wants, Claim::Ctx(CTX))?;
+    says(&rt, maker, rule, &[NIL, NAT], &wants, None, Claim::Ctx(CTX))?;
+
+    let rule = RuleName::Contexts(ContextRule::CtxFace);
+    let wants = [Claim::Ctx(NIL)];
+    let asks = Some(SideTest::IsFace(NIL, FACE));
+    says(
+        &rt,
+        maker,
+        rule,
+        &[NIL, FACE],
+        &wants,
+        asks,
+        Claim::Ctx(FACED),
+    )?;
     Ok(())
 }
 
@@ -210,7 +225,15 @@ fn substitutions_say(rt: HostRuntime) -> Result<(), Fail> {
 
     let rule = RuleName::Contexts(ContextRule::SubId);
     let wants = [Claim::Ctx(NIL)];
-    says(&rt, maker, rule, &[NIL], &wants, Claim::Sb(NIL, ID, NIL))?;
+    says(
+        &rt,
+        maker,
+        rule,
+        &[NIL],
+        &wants,
+        None,
+        Claim::Sb(NIL, ID, NIL),
+    )?;
 
     let rule = RuleName::Contexts(ContextRule::SubWk);
     let wants = [Claim::Sb(NIL, ID, NIL), Claim::Ty(NIL, NAT)];
@@ -220,6 +243,7 @@ fn substitutions_say(rt: HostRuntime) -> Result<(), Fail> {
         rule,
         &[NIL, ID, NIL, NAT],
         &wants,
+        None,
         Claim::Sb(CTX, UP, NIL),
     )?;
 
@@ -235,6 +259,7 @@ fn substitutions_say(rt: HostRuntime) -> Result<(), Fail> {
         rule,
         &[NIL, ID, NIL, NAT, ZERO],
         &wants,
+        None,
         Claim::Sb(NIL, PUSHED, CTX),
     )?;
     Ok(())
@@ -253,6 +278,7 @@ fn instances_say(rt: HostRuntime) -> Result<(), Fail> {
         rule,
         &[CTX, UP, NIL, NAT],
         &wants,
+        None,
         Claim::Ty(CTX, NAT),
     )?;
 
@@ -264,6 +290,7 @@ fn instances_say(rt: HostRuntime) -> Result<(), Fail> {
         rule,
         &[NIL, PUSHED, CTX, VAR, NAT],
         &wants,
+        None,
         Claim::Tm(NIL, ZERO, NAT),
     )?;
 
@@ -275,6 +302,7 @@ fn instances_say(rt: HostRuntime) -> Result<(), Fail> {
         rule,
         &[NIL, NAT],
         &wants,
+        None,
         Claim::Tm(CTX, VAR, NAT),
     )?;
     Ok(())
@@ -293,6 +321,7 @@ fn functions_say(rt: HostRuntime) -> Result<(), Fail> {
         rule,
         &[NIL, NAT, NAT],
         &wants,
+        None,
         Claim::Ty(NIL, PI),
     )?;
 
@@ -304,6 +333,7 @@ fn functions_say(rt: HostRuntime) -> Result<(), Fail> {
         rule,
         &[NIL, NAT, NAT],
         &wants,
+        None,
         Claim::Tm(NIL, PI, UNIVERSE),
     )?;
 
@@ -315,6 +345,7 @@ fn functions_say(rt: HostRuntime) -> Result<(), Fail> {
         rule,
         &[NIL, NAT, VAR, NAT],
         &wants,
+        None,
         Claim::Tm(NIL, LAM, PI),
     )?;
 
@@ -326,6 +357,7 @@ fn functions_say(rt: HostRuntime) -> Result<(), Fail> {
         rule,
         &[NIL, LAM, ZERO, NAT, NAT],
         &wants,
+        None,
         Claim::Tm(NIL, APP, NAT),
     )?;
     Ok(())
@@ -338,7 +370,15 @@ fn numbers_say(rt: HostRuntime) -> Result<(), Fail> {
 
     let rule = RuleName::Universe(UniverseRule::TyU);
     let wants = [Claim::Tm(NIL, NAT, UNIVERSE)];
-    says(&rt, maker, rule, &[NIL, NAT], &wants, Claim::Ty(NIL, NAT))?;
+    says(
+        &rt,
+        maker,
+        rule,
+        &[NIL, NAT],
+        &wants,
+        None,
+        Claim::Ty(NIL, NAT),
+    )?;
 
     let rule = RuleName::Naturals(NatRule::NatU);
     let wants = [Claim::Ctx(NIL)];
@@ -348,12 +388,21 @@ fn numbers_say(rt: HostRuntime) -> Result<(), Fail> {
         rule,
         &[NIL],
         &wants,
+        None,
         Claim::Tm(NIL, NAT, UNIVERSE),
     )?;
 
     let rule = RuleName::Naturals(NatRule::Zero);
     let wants = [Claim::Ctx(NIL)];
-    says(&rt, maker, rule, &[NIL], &wants, Claim::Tm(NIL, ZERO, NAT))?;
+    says(
+        &rt,
+        maker,
+        rule,
+        &[NIL],
+        &wants,
+        None,
+        Claim::Tm(NIL, ZERO, NAT),
+    )?;
 
     let rule = RuleName::Naturals(NatRule::Suc);
     let wants = [Claim::Tm(NIL, ZERO, NAT)];
@@ -363,13 +412,14 @@ fn numbers_say(rt: HostRuntime) -> Result<(), Fail> {
         rule,
         &[NIL, ZERO],
         &wants,
+        None,
         Claim::Tm(NIL, ONE, NAT),
     )?;
     Ok(())
 }
 
 #[test]
-fn programs_make_claims_that_no_rule_gives_yet(rt: HostRuntime) -> Result<(), Fail> {
+fn programs_make_equations(rt: HostRuntime) -> Result<(), Fail> {
     let maker = &mut KnownRows;
     let parts = [NIL, NAT, ZERO];
 

@@ -4,15 +4,17 @@ use Rattle.std.specs.Prelude.{ℕ, List, [], ◌∷◌, codes, ◌≡◌, ◌≤
 use Rattle.trees.specs.declared.kind.PartKind.{PartKind}
 use Rattle.trees.specs.declared.kind.PartKind.TheVariants.{Context, Subst, Term}
 use Rattle.theory.specs.declared.rule.ContextRule.{ContextRule}
-use Rattle.theory.specs.declared.rule.ContextRule.TheVariants.{CtxNil, CtxVar, CtxName, SubId}
-use Rattle.theory.specs.declared.rule.ContextRule.TheVariants.{SubWk, SubWkName, SubVar, SubComp}
+use Rattle.theory.specs.declared.rule.ContextRule.TheVariants.{CtxNil, CtxVar, CtxName, CtxFace}
+use Rattle.theory.specs.declared.rule.ContextRule.TheVariants.{SubId, SubWk, SubWkName, SubWkFace}
+use Rattle.theory.specs.declared.rule.ContextRule.TheVariants.{SubVar, SubForm, SubFace, SubComp}
 use Rattle.theory.specs.declared.rule.InstanceRule.{InstanceRule}
 use Rattle.theory.specs.declared.rule.InstanceRule.TheVariants.{TySub, TyEqSub, TmSub, TmEqSub}
-use Rattle.theory.specs.declared.rule.InstanceRule.TheVariants.{TyCong, TmCong, TmVar}
+use Rattle.theory.specs.declared.rule.InstanceRule.TheVariants.{TyCong, TmCong, TyInt, TmInt, TmVar}
 use Rattle.theory.specs.declared.rule.EqualityRule.{EqualityRule}
 use Rattle.theory.specs.declared.rule.EqualityRule.TheVariants.{TyEqRefl, TyEqSym, TyEqTrans}
 use Rattle.theory.specs.declared.rule.EqualityRule.TheVariants.{TmEqRefl, TmEqSym, TmEqTrans}
-use Rattle.theory.specs.declared.rule.EqualityRule.TheVariants.{TmConv, TmEqConv}
+use Rattle.theory.specs.declared.rule.EqualityRule.TheVariants.{TmConv, TmEqConv, TyEqCover}
+use Rattle.theory.specs.declared.rule.EqualityRule.TheVariants.{TmEqCover, TyEqAbsurd, TmEqAbsurd}
 use Rattle.theory.specs.declared.rule.UniverseRule.{UniverseRule}
 use Rattle.theory.specs.declared.rule.UniverseRule.TheVariants.{TyUniv, TyU, TyEqU}
 use Rattle.theory.specs.declared.rule.PiRule.{PiRule}
@@ -24,7 +26,8 @@ use Rattle.theory.specs.declared.rule.SigmaRule.TheVariants.{Fst, Snd, FstCong, 
 use Rattle.theory.specs.declared.rule.SigmaRule.TheVariants.{SigBeta2, SigEta}
 use Rattle.theory.specs.declared.rule.PathRule.{PathRule}
 use Rattle.theory.specs.declared.rule.PathRule.TheVariants.{PathTy, PathU, PathTyCong, PathUCong}
-use Rattle.theory.specs.declared.rule.PathRule.TheVariants.{PLam, PathLeft, PathRight, PathEta}
+use Rattle.theory.specs.declared.rule.PathRule.TheVariants.{PLam, PApp, PAppCong, PathLeft}
+use Rattle.theory.specs.declared.rule.PathRule.TheVariants.{PathRight, PathBeta, PathEta}
 use Rattle.theory.specs.declared.rule.NatRule.{NatRule}
 use Rattle.theory.specs.declared.rule.NatRule.TheVariants.{NatU, Zero, Suc, SucCong, NatRec}
 use Rattle.theory.specs.declared.rule.NatRule.TheVariants.{NatRecCong, NatRecZero, NatRecSuc}
@@ -50,10 +53,14 @@ abbrev pub context_signature : ContextRule → Signature
 context_signature CtxNil = signed (codes "ctx.nil") [] 0
 context_signature CtxVar = signed (codes "ctx.var") (Context ∷ Term ∷ []) 1
 context_signature CtxName = signed (codes "ctx.name") (Context ∷ []) 1
+context_signature CtxFace = signed (codes "ctx.face") (Context ∷ Term ∷ []) 1
 context_signature SubId = signed (codes "sub.id") (Context ∷ []) 1
 context_signature SubWk = signed (codes "sub.wk") (Context ∷ Subst ∷ Context ∷ Term ∷ []) 2
 context_signature SubWkName = signed (codes "sub.wkname") (Context ∷ Subst ∷ Context ∷ []) 1
+context_signature SubWkFace = signed (codes "sub.wkface") (Context ∷ Subst ∷ Context ∷ Term ∷ []) 1
 context_signature SubVar = signed (codes "sub.var") (Context ∷ Subst ∷ Context ∷ Term ∷ Term ∷ []) 3
+context_signature SubForm = signed (codes "sub.form") (Context ∷ Subst ∷ Context ∷ Term ∷ []) 1
+context_signature SubFace = signed (codes "sub.face") (Context ∷ Subst ∷ Context ∷ Term ∷ []) 1
 context_signature SubComp = signed (codes "sub.comp")
     (Context ∷ Subst ∷ Context ∷ Subst ∷ Context ∷ []) 2
 
@@ -68,6 +75,9 @@ instance_signature TyCong = signed (codes "ty.cong")
     (Context ∷ Subst ∷ Context ∷ Term ∷ Term ∷ Term ∷ Term ∷ []) 3
 instance_signature TmCong = signed (codes "tm.cong")
     (Context ∷ Subst ∷ Context ∷ Term ∷ Term ∷ Term ∷ Term ∷ Term ∷ []) 3
+instance_signature TyInt = signed (codes "ty.int") (Context ∷ Subst ∷ Subst ∷ Context ∷ Term ∷ []) 3
+instance_signature TmInt = signed (codes "tm.int")
+    (Context ∷ Subst ∷ Subst ∷ Context ∷ Term ∷ Term ∷ []) 3
 instance_signature TmVar = signed (codes "tm.var") (Context ∷ Term ∷ []) 1
 
 abbrev pub equality_signature : EqualityRule → Signature
@@ -81,6 +91,12 @@ equality_signature TmEqTrans = signed (codes "tmeq.trans")
 equality_signature TmConv = signed (codes "tm.conv") (Context ∷ Term ∷ Term ∷ Term ∷ []) 2
 equality_signature TmEqConv = signed (codes "tmeq.conv")
     (Context ∷ Term ∷ Term ∷ Term ∷ Term ∷ []) 2
+equality_signature TyEqCover = signed (codes "tyeq.cover")
+    (Context ∷ Term ∷ Term ∷ Term ∷ Term ∷ []) 4
+equality_signature TmEqCover = signed (codes "tmeq.cover")
+    (Context ∷ Term ∷ Term ∷ Term ∷ Term ∷ Term ∷ []) 4
+equality_signature TyEqAbsurd = signed (codes "tyeq.absurd") (Context ∷ Term ∷ Term ∷ []) 2
+equality_signature TmEqAbsurd = signed (codes "tmeq.absurd") (Context ∷ Term ∷ Term ∷ Term ∷ []) 2
 
 abbrev pub universe_signature : UniverseRule → Signature
 universe_signature TyUniv = signed (codes "ty.univ") (Context ∷ []) 1
@@ -121,8 +137,12 @@ path_signature PathTyCong = signed (codes "path.tycong")
 path_signature PathUCong = signed (codes "path.ucong")
     (Context ∷ Term ∷ Term ∷ Term ∷ Term ∷ Term ∷ Term ∷ []) 3
 path_signature PLam = signed (codes "plam") (Context ∷ Term ∷ Term ∷ Term ∷ Term ∷ []) 3
+path_signature PApp = signed (codes "papp") (Context ∷ Term ∷ Term ∷ Term ∷ Term ∷ Term ∷ []) 1
+path_signature PAppCong = signed (codes "papp.cong")
+    (Context ∷ Term ∷ Term ∷ Term ∷ Term ∷ Term ∷ Term ∷ []) 1
 path_signature PathLeft = signed (codes "path.left") (Context ∷ Term ∷ Term ∷ Term ∷ Term ∷ []) 1
 path_signature PathRight = signed (codes "path.right") (Context ∷ Term ∷ Term ∷ Term ∷ Term ∷ []) 1
+path_signature PathBeta = signed (codes "path.beta") (Context ∷ Term ∷ Term ∷ Term ∷ []) 1
 path_signature PathEta = signed (codes "path.eta")
     (Context ∷ Term ∷ Term ∷ Term ∷ Term ∷ Term ∷ []) 3
 

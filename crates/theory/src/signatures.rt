@@ -47,10 +47,14 @@ fn context_signature(rule: ContextRule) -> Signature
         ContextRule::CtxNil => signed("ctx.nil", &[], 0),
         ContextRule::CtxVar => signed("ctx.var", &[Context, Term], 1),
         ContextRule::CtxName => signed("ctx.name", &[Context], 1),
+        ContextRule::CtxFace => signed("ctx.face", &[Context, Term], 1),
         ContextRule::SubId => signed("sub.id", &[Context], 1),
         ContextRule::SubWk => signed("sub.wk", &[Context, Subst, Context, Term], 2),
         ContextRule::SubWkName => signed("sub.wkname", &[Context, Subst, Context], 1),
+        ContextRule::SubWkFace => signed("sub.wkface", &[Context, Subst, Context, Term], 1),
         ContextRule::SubVar => signed("sub.var", &[Context, Subst, Context, Term, Term], 3),
+        ContextRule::SubForm => signed("sub.form", &[Context, Subst, Context, Term], 1),
+        ContextRule::SubFace => signed("sub.face", &[Context, Subst, Context, Term], 1),
         ContextRule::SubComp => signed("sub.comp", &[Context, Subst, Context, Subst, Context], 2),
     }
 }
@@ -77,6 +81,8 @@ fn instance_signature(rule: InstanceRule) -> Signature
             &[Context, Subst, Context, Term, Term, Term, Term, Term],
             3,
         ),
+        InstanceRule::TyInt => signed("ty.int", &[Context, Subst, Subst, Context, Term], 3),
+        InstanceRule::TmInt => signed("tm.int", &[Context, Subst, Subst, Context, Term, Term], 3),
         InstanceRule::TmVar => signed("tm.var", &[Context, Term], 1),
     }
 }
@@ -93,6 +99,14 @@ fn equality_signature(rule: EqualityRule) -> Signature
         EqualityRule::TmEqTrans => signed("tmeq.trans", &[Context, Term, Term, Term, Term], 2),
         EqualityRule::TmConv => signed("tm.conv", &[Context, Term, Term, Term], 2),
         EqualityRule::TmEqConv => signed("tmeq.conv", &[Context, Term, Term, Term, Term], 2),
+        EqualityRule::TyEqCover => signed("tyeq.cover", &[Context, Term, Term, Term, Term], 4),
+        EqualityRule::TmEqCover => signed(
+            "tmeq.cover",
+            &[Context, Term, Term, Term, Term, Term],
+            4,
+        ),
+        EqualityRule::TyEqAbsurd => signed("tyeq.absurd", &[Context, Term, Term], 2),
+        EqualityRule::TmEqAbsurd => signed("tmeq.absurd", &[Context, Term, Term, Term], 2),
     }
 }
 
@@ -162,8 +176,15 @@ fn path_signature(rule: PathRule) -> Signature
             3,
         ),
         PathRule::PLam => signed("plam", &[Context, Term, Term, Term, Term], 3),
+        PathRule::PApp => signed("papp", &[Context, Term, Term, Term, Term, Term], 1),
+        PathRule::PAppCong => signed(
+            "papp.cong",
+            &[Context, Term, Term, Term, Term, Term, Term],
+            1,
+        ),
         PathRule::PathLeft => signed("path.left", &[Context, Term, Term, Term, Term], 1),
         PathRule::PathRight => signed("path.right", &[Context, Term, Term, Term, Term], 1),
+        PathRule::PathBeta => signed("path.beta", &[Context, Term, Term, Term], 1),
         PathRule::PathEta => signed("path.eta", &[Context, Term, Term, Term, Term, Term], 3),
     }
 }

@@ -3,10 +3,10 @@
 ghost use Rattle.theory.specs.declared.rule.RuleName.TheVariants.{Instances};
 ghost use Rattle.rules.specs.Schemas.{Means};
 
-use super::named::{A1, A3, A4, A5, B4, B5, B6, B7, C6, D1, G0, G2, H0, UP};
+use super::named::{A1, A3, A4, A5, B4, B5, B6, B7, C4, C6, D1, E2, G0, G2, G3, H0, UP};
 use crate::instruction::Instruction::{CtxVar, Instance, Push, Var};
 use crate::program::Program::{Sb, Tm, TmEq, Ty, TyEq};
-use crate::program::Schema;
+use crate::program::{Schema, Test};
 use theory::InstanceRule;
 
 /// The programs of a rule of this family.
@@ -64,6 +64,29 @@ pub fn instance_schema(rule: InstanceRule) -> Schema
                 &[Instance, C6, Push, D1, A4],
                 &[Instance, C6, Push, D1, B5],
                 &[Instance, B7, Push, D1, A4],
+            ),
+        },
+        InstanceRule::TyInt => Schema {
+            wants: &[
+                Sb(&[H0], &[D1], &[G3]),
+                Sb(&[H0], &[E2], &[G3]),
+                Ty(&[G3], &[B4]),
+            ],
+            sides: &[Test::Alike(&[H0], &[D1], &[E2])],
+            gives: TyEq(&[H0], &[Instance, B4, D1], &[Instance, B4, E2]),
+        },
+        InstanceRule::TmInt => Schema {
+            wants: &[
+                Sb(&[H0], &[D1], &[G3]),
+                Sb(&[H0], &[E2], &[G3]),
+                Tm(&[G3], &[C4], &[B5]),
+            ],
+            sides: &[Test::Alike(&[H0], &[D1], &[E2])],
+            gives: TmEq(
+                &[H0],
+                &[Instance, C4, D1],
+                &[Instance, C4, E2],
+                &[Instance, B5, D1],
             ),
         },
         InstanceRule::TmVar => Schema {

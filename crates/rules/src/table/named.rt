@@ -18,11 +18,15 @@ pub const END_1: Instruction = Make(Op::I1);
 
 pub const FST: Instruction = Make(Op::Fst);
 
+pub const JOIN: Instruction = Make(Op::Join);
+
 pub const LAM: Instruction = Make(Op::Lam);
 
 pub const NAT: Instruction = Make(Op::Nat);
 
 pub const NATREC: Instruction = Make(Op::NatRec);
+
+pub const NO_FACE: Instruction = Make(Op::F0);
 
 pub const PAIR: Instruction = Make(Op::Pair);
 
@@ -84,11 +88,15 @@ pub const D4: Instruction = Part(4);
 
 pub const E1: Instruction = Part(1);
 
+pub const E2: Instruction = Part(2);
+
 pub const F1: Instruction = Part(1);
 
 pub const G0: Instruction = Part(0);
 
 pub const G2: Instruction = Part(2);
+
+pub const G3: Instruction = Part(3);
 
 pub const G4: Instruction = Part(4);
 
@@ -114,7 +122,13 @@ pub const N7: Instruction = Part(7);
 
 pub const P1: Instruction = Part(1);
 
+pub const P3: Instruction = Part(3);
+
 pub const Q2: Instruction = Part(2);
+
+pub const R2: Instruction = Part(2);
+
+pub const R3: Instruction = Part(3);
 
 pub const U2: Instruction = Part(2);
 
@@ -122,11 +136,15 @@ pub const U3: Instruction = Part(3);
 
 pub const U4: Instruction = Part(4);
 
+pub const U5: Instruction = Part(5);
+
 pub const V3: Instruction = Part(3);
 
 pub const V4: Instruction = Part(4);
 
 pub const V5: Instruction = Part(5);
+
+pub const V6: Instruction = Part(6);
 
 pub const X4: Instruction = Part(4);
 

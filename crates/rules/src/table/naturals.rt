@@ -9,8 +9,20 @@ use super::named::{
 };
 use crate::instruction::Instruction::{CtxVar, Instance, Push, Shift, Var};
 use crate::program::Program::{Ctx, Tm, TmEq, Ty, TyEq};
-use crate::program::Schema;
+use crate::program::{Program, Schema};
 use theory::NatRule;
+
+/// The premises of `natrec`.
+const NATREC_WANTS: &[Program] = &[
+    Ty(&[CtxVar, G0, NAT], &[P1]),
+    Tm(&[G0], &[A2], &[Instance, P1, Push, ID, ZERO]),
+    Tm(
+        &[G0],
+        &[B3],
+        &[PI, NAT, PI, P1, Instance, P1, Push, Shift(2), SUC, Var(1)],
+    ),
+    Tm(&[G0], &[N4], &[NAT]),
+];
 
 /// The programs of a rule of this family.
 pub fn nat_schema(rule: NatRule) -> Schema
@@ -38,16 +50,7 @@ pub fn nat_schema(rule: NatRule) -> Schema
             gives: TmEq(&[G0], &[SUC, N1], &[SUC, M2], &[NAT]),
         },
         NatRule::NatRec => Schema {
-            wants: &[
-                Ty(&[CtxVar, G0, NAT], &[P1]),
-                Tm(&[G0], &[A2], &[Instance, P1, Push, ID, ZERO]),
-                Tm(
-                    &[G0],
-                    &[B3],
-                    &[PI, NAT, PI, P1, Instance, P1, Push, Shift(2), SUC, Var(1)],
-                ),
-                Tm(&[G0], &[N4], &[NAT]),
-            ],
+            wants: NATREC_WANTS,
             sides: &[],
             gives: Tm(
                 &[G0],
@@ -94,16 +97,7 @@ pub fn nat_schema(rule: NatRule) -> Schema
             ),
         },
         NatRule::NatRecSuc => Schema {
-            wants: &[
-                Ty(&[CtxVar, G0, NAT], &[P1]),
-                Tm(&[G0], &[A2], &[Instance, P1, Push, ID, ZERO]),
-                Tm(
-                    &[G0],
-                    &[B3],
-                    &[PI, NAT, PI, P1, Instance, P1, Push, Shift(2), SUC, Var(1)],
-                ),
-                Tm(&[G0], &[N4], &[NAT]),
-            ],
+            wants: NATREC_WANTS,
             sides: &[],
             gives: TmEq(
                 &[G0],

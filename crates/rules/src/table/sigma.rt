@@ -6,8 +6,15 @@ ghost use Rattle.rules.specs.Schemas.{Means};
 use super::named::{A1, A2, A3, B2, B3, B4, C1, C2, D4, FST, G0, ID, K2, PAIR, SIG, SND, UNIVERSE};
 use crate::instruction::Instruction::{CtxVar, Instance, Push};
 use crate::program::Program::{Tm, TmEq, Ty, TyEq};
-use crate::program::Schema;
+use crate::program::{Program, Schema};
 use theory::SigmaRule;
+
+/// The premises of `pair`.
+const PAIR_WANTS: &[Program] = &[
+    Ty(&[CtxVar, G0, A3], &[B4]),
+    Tm(&[G0], &[A1], &[A3]),
+    Tm(&[G0], &[B2], &[Instance, B4, Push, ID, A1]),
+];
 
 /// The programs of a rule of this family.
 pub fn sigma_schema(rule: SigmaRule) -> Schema
@@ -44,11 +51,7 @@ pub fn sigma_schema(rule: SigmaRule) -> Schema
             gives: TmEq(&[G0], &[SIG, A1, B3], &[SIG, C2, D4], &[UNIVERSE]),
         },
         SigmaRule::Pair => Schema {
-            wants: &[
-                Ty(&[CtxVar, G0, A3], &[B4]),
-                Tm(&[G0], &[A1], &[A3]),
-                Tm(&[G0], &[B2], &[Instance, B4, Push, ID, A1]),
-            ],
+            wants: PAIR_WANTS,
             sides: &[],
             gives: Tm(&[G0], &[PAIR, A1, B2], &[SIG, A3, B4]),
         },
@@ -78,20 +81,12 @@ pub fn sigma_schema(rule: SigmaRule) -> Schema
             ),
         },
         SigmaRule::SigBeta1 => Schema {
-            wants: &[
-                Ty(&[CtxVar, G0, A3], &[B4]),
-                Tm(&[G0], &[A1], &[A3]),
-                Tm(&[G0], &[B2], &[Instance, B4, Push, ID, A1]),
-            ],
+            wants: PAIR_WANTS,
             sides: &[],
             gives: TmEq(&[G0], &[FST, PAIR, A1, B2], &[A1], &[A3]),
         },
         SigmaRule::SigBeta2 => Schema {
-            wants: &[
-                Ty(&[CtxVar, G0, A3], &[B4]),
-                Tm(&[G0], &[A1], &[A3]),
-                Tm(&[G0], &[B2], &[Instance, B4, Push, ID, A1]),
-            ],
+            wants: PAIR_WANTS,
             sides: &[],
             gives: TmEq(
                 &[G0],

@@ -6,7 +6,7 @@ use Rattle.rows.specs.Shown.{things}
 use Rattle.side_conditions.specs.Kept.{KeepsBelow}
 use Rattle.rules.specs.Claims.{sides_in}
 use Rattle.replay.specs.Premises.{rule_at_rows}
-use Rattle.replay.proofs.SideLaws.{cut-back, keeps-on, keeps-back, keeps-end, side_some, sides-few, sides_begin, side_more, side_fails, sides_end}
+use Rattle.replay.proofs.SideLaws.{cut-back, keeps-on, keeps-back, keeps-end, side_some, few, sides_begin, side_more, side_fails, sides_end}
 use Rattle.replay.proofs.node.sides_hold.Goals as goal
 
 pub loop-test-init : goal.loop-test-init
@@ -26,7 +26,7 @@ decide-requires-clause-keeps c =
 pub overflow_add-at : goal.overflow_add-at
 overflow_add-at c =
     let place = rw c.in-Some.is at c.in_ok-test.ensures.place in
-    omega (arith, place, sides-few c.args.rule (meanings (slice_get (things c.loop-test.store)) c.args.rows.now))
+    omega (arith, place, few c.args.rule (meanings (slice_get (things c.loop-test.store)) c.args.rows.now))
 
 pub loop-test-smaller : goal.loop-test-smaller
 loop-test-smaller c =

@@ -1,0 +1,221 @@
+"""The rules of `rules.txt`, read: each a name, parts, premises, side conditions and a conclusion.
+
+A thing in a rule (a tree, a substitution, a context) is a tuple of a word and what stands below it.
+"""
+import pathlib
+import re
+
+RULES = pathlib.Path(__file__).resolve().parent / "rules.txt"
+
+# Words within a rule's name, as they stand in the names of variants.
+WORDS = {
+    "tyeq": "TyEq", "tmeq": "TmEq", "wkname": "WkName", "wkface": "WkFace", "tycong": "TyCong",
+    "ucong": "UCong", "papp": "PApp", "plam": "PLam", "natrec": "NatRec",
+}
+
+# Operators that rules speak of: the variant of `Op`, and the number of kids.
+OPERATORS = {
+    "U": ("U", 0), "pi": ("Pi", 2), "lam": ("Lam", 2), "app": ("App", 2), "sig": ("Sig", 2),
+    "pair": ("Pair", 2), "fst": ("Fst", 1), "snd": ("Snd", 1), "pathp": ("PathP", 3),
+    "plam": ("PLam", 1), "papp": ("PApp", 2), "nat": ("Nat", 0), "zero": ("Zero", 0),
+    "suc": ("Suc", 1), "natrec": ("NatRec", 4), "i0": ("I0", 0), "i1": ("I1", 0), "f0": ("F0", 0),
+    "join": ("Join", 2),
+}
+
+# Trees that are made of others: their parts, and what they are.
+DERIVED = {"motive_step": (["P"], "pi nat (pi P P[push (shift 2) (suc (var 1))])")}
+
+# The kinds of parts; those of other letters are trees.
+KINDS = {"G": "Context", "H": "Context", "K": "Context", "d": "Subst", "e": "Subst"}
+
+TOKEN = re.compile(r"\s*(\[\]|\w+|[][(){}.+;:=,]|>>)")
+SIDE = re.compile(r"\w+\([^)]*\)")
+LIKE = "premises of "
+
+
+class Rule:
+    """A rule, with its family and its text.
+
+    `model` is the rule that it is as, with another operator, and `like` the one whose premises it
+    has, if any. The texts of premises and side conditions are kept.
+    """
+
+    def __init__(self, family, text, rules, model=None):
+        self.family, self.text, self.model = family, text, model
+        self.name, parts, premises, gives = (" ".join(part.split()) for part in text.split("|"))
+        wants, _, sides = premises.partition(" if ")
+        self.like = rules[wants.removeprefix(LIKE)] if wants.startswith(LIKE) else None
+        self.parts = parts.split()
+        self.want_texts = self.like.want_texts if self.like else split(wants)
+        self.side_texts, self.gives_text = SIDE.findall(sides), gives
+        self.wants = [judgement(want) for want in self.want_texts]
+        self.sides = [side(one) for one in self.side_texts]
+        self.gives = judgement(gives)
+        words = self.name.split(".")
+        self.variant = "".join(WORDS.get(word, word.capitalize()) for word in words)
+
+    def kinds(self):
+        return [KINDS.get(part, "Term") for part in self.parts]
+
+
+class Family:
+    """A family of rules: its variant of `RuleName`, its enum, its word in names of functions."""
+
+    def __init__(self, variant, enum, word):
+        self.variant, self.enum, self.word = variant, enum, word
+        self.about, self.rules = None, []
+
+
+def split(wants):
+    """The texts of premises."""
+    return [want.strip() for want in wants.split(";") if want.strip()]
+
+
+def families():
+    """The families of `rules.txt`. A line that is indented goes on with the one before."""
+    lines, found, rules = [], [], {}
+    for line in RULES.read_text().splitlines():
+        if line.startswith("  "):
+            lines[-1] += "\n" + line
+        elif line.strip() and not line.startswith("#"):
+            lines.append(line)
+    for line in lines:
+        if line.startswith("family "):
+            found.append(Family(*line.split()[1:]))
+        elif found[-1].about is None:
+            found[-1].about = line
+        else:
+            more = as_others if ": as " in line else one_rule
+            found[-1].rules += more(found[-1], line, rules)
+            rules |= {rule.name: rule for rule in found[-1].rules}
+    return found
+
+
+def one_rule(family, line, rules):
+    return [Rule(family, line, rules)]
+
+
+def as_others(family, line, rules):
+    """The rules of a line `name, ..: as name, .., with operator`."""
+    _, _, others = line.partition(": as ")
+    others, _, own = others.rpartition(", with ")
+    for model in (rules[other] for other in others.split(", ")):
+        text = re.sub(rf"\b{model.name.split('.')[0]}\b", own, model.text)
+        yield Rule(family, text, rules, model)
+
+
+class Reader:
+    """Reads the things of a text, one after the other."""
+
+    def __init__(self, text):
+        self.tokens, self.at = TOKEN.findall(text), 0
+
+    def peek(self):
+        return self.tokens[self.at] if self.at < len(self.tokens) else None
+
+    def take(self, wanted=None):
+        token = self.peek()
+        if token is None or wanted not in (None, token):
+            raise ValueError(f"{token} in {' '.join(self.tokens)}")
+        self.at += 1
+        return token
+
+    def tree(self):
+        """A variable, an operator or derived tree over its kids, or an atom."""
+        word = self.peek()
+        if word == "var":
+            self.take()
+            return ("var", int(self.take()))
+        for form, count in (("make", OPERATORS.get(word, (None, 0))[1]),
+                            ("derived", len(DERIVED.get(word, ([], None))[0]))):
+            if count:
+                self.take()
+                return (form, word, [self.atom() for _ in range(count)])
+        return self.atom()
+
+    def atom(self):
+        """A part, an operator without kids or a tree in brackets, and what is done to it."""
+        word = self.take()
+        if word == "(":
+            tree = self.tree()
+            self.take(")")
+        elif word in ("0", "1"):
+            tree = ("make", "i" + word, [])
+        else:
+            tree = ("make", word, []) if word in OPERATORS else ("part", word)
+        while self.peek() in ("+", "{", "["):
+            mark = self.take()
+            if mark == "+":
+                tree = ("weakened", tree)
+            elif mark == "{":
+                tree = ("at", tree, self.tree())
+                self.take("}")
+            else:
+                tree = ("apply", tree, self.substitution())
+                self.take("]")
+        return tree
+
+    def substitution(self):
+        sub = self.substitution_atom()
+        if self.peek() == "then":
+            self.take()
+            sub = ("then", sub, self.substitution_atom())
+        return sub
+
+    def substitution_atom(self):
+        word = self.take()
+        if word == "(":
+            sub = self.substitution()
+            self.take(")")
+            return sub
+        if word == "push":
+            return ("push", self.substitution_atom(), self.atom())
+        if word == "shift":
+            return ("shift", int(self.take()))
+        return {"id": ("id",), "up": ("up",)}.get(word, ("part", word))
+
+    def context(self):
+        word = self.take()
+        ctx = ("nil",) if word == "[]" else ("part", word)
+        while self.peek() == ".":
+            self.take()
+            if self.peek() == "I":
+                self.take()
+                ctx = ("with_name", ctx)
+            else:
+                entry = "with_face" if self.peek() in ("p", "q") else "with_var"
+                ctx = (entry, ctx, self.atom())
+        return ctx
+
+
+def judgement(text):
+    """A judgement: its form, and its places in order."""
+    reader = Reader(text)
+    if " to " in text:
+        sub = reader.substitution()
+        reader.take(":")
+        target = reader.context()
+        reader.take("to")
+        return ("Sb", [target, sub, reader.context()])
+    if reader.peek() == "ctx":
+        reader.take()
+        return ("Ctx", [reader.context()])
+    places, form = [reader.context()], "Ty"
+    reader.take(">>")
+    places.append(reader.tree())
+    for mark, forms in (("=", {"Ty": "TyEq"}), (":", {"Ty": "Tm", "TyEq": "TmEq"})):
+        if reader.peek() == mark:
+            reader.take()
+            places.append(reader.tree())
+            form = forms[form]
+    if reader.peek() is not None:
+        raise ValueError(text)
+    return (form, places)
+
+
+def side(text):
+    """A side condition: its form, and its places in order."""
+    form, _, inside = text[:-1].partition("(")
+    first, *others = inside.split(", ")
+    read = Reader.substitution if form == "Alike" else Reader.tree
+    return (form, [Reader(first).context()] + [read(Reader(other)) for other in others])
