@@ -3,7 +3,7 @@
 conditions are tried at all points.
 
 It shares nothing with the program but the text of the rules, so that tests have what they expect
-from outside.
+from outside; it has the trees of the Kan operations from `kan.py`.
 
     python3 tools/judge.py FILE
 
@@ -14,14 +14,11 @@ import pathlib
 import re
 import sys
 
+import kan
 import rule_notation
+from rule_notation import BINDS
 
 RULES = {rule.name: rule for family in rule_notation.families() for rule in family.rules}
-OPERATORS = """i0 i1 neg:0 min:00 max:00 f0 f1 eq0:0 eq1:0 meet:00 join:00 all:1
-    U pi:01 lam:01 app:00 sig:01 pair:00 fst:0 snd:0 pathp:100 plam:1 papp:00
-    nat zero suc:0 natrec:1000 sys:0000 empty comp:1010 Glue:0000 glue:000 unglue:0000"""
-BINDS = {name: [int(bind) for bind in binds]
-         for name, _, binds in (word.partition(":") for word in OPERATORS.split())}
 NUMBER = re.compile(r"0|[1-9][0-9]*")
 GREATEST_SHIFT = 2 ** 62
 
@@ -203,6 +200,8 @@ def meaning(thing, given):
         letters, text = rule_notation.DERIVED[rest[0]]
         parts = [meaning(part, given) for part in rest[1]]
         return meaning(rule_notation.Reader(text).tree(), dict(zip(letters, parts)))
+    if word == "called":
+        return kan.made(rest[0], [meaning(part, given) for part in rest[1]])
     if word == "var":
         return ("var", rest[0])
     return MADE[word](*(meaning(part, given) if isinstance(part, tuple) else part for part in rest))
@@ -299,14 +298,22 @@ def row(words, rows):
     return ("Term", apply(named(term, rows, "Term"), named(sub, rows, "Subst")))
 
 
-def verdict(lines):
-    """The line that `replay` prints for a file of these lines, each ended by a newline."""
+def meanings(lines):
+    """What the rows of these lines mean, up to the first that is not right."""
     rows = []
     for line in lines:
         try:
             rows.append(row(line.split(" "), rows))
         except (ValueError, KeyError, IndexError):
-            return f"no: row {len(rows)}\n"
+            break
+    return rows
+
+
+def verdict(lines):
+    """The line that `replay` prints for a file of these lines, each ended by a newline."""
+    rows = meanings(lines)
+    if len(rows) < len(lines):
+        return f"no: row {len(rows)}\n"
     if not rows:
         return "no: row 0\n"
     roots = sum(line.startswith("r ") for line in lines)

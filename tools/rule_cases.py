@@ -41,17 +41,28 @@ def exchanged():
             yield at, " ".join(words[:place] + [others[kind]] + words[place + 1:])
 
 
-def case(rows):
+def case(rows, line):
     """A case as `try_program.py` has them: the file, the words, the line, and the status."""
-    line = judge.verdict(rows)
     text = "".join(row + "\n" for row in rows)
     return (text, ["replay", "{}"], line, 0 if line.startswith("yes") else 1)
 
 
-def cases():
-    found = {"every_rule": case(ROWS)}
-    for number, (at, line) in enumerate(exchanged()):
-        found[f"exchanged_{number}"] = case(ROWS[:at] + [line])
+def after(at, row, meanings):
+    """The case of the first rows, which are right, with one more row."""
+    try:
+        judge.row(row.split(" "), meanings[:at])
+        line = f"yes: {at + 1} rows, 0 roots\n"
+    except (ValueError, KeyError, IndexError):
+        line = f"no: row {at}\n"
+    return case(ROWS[:at] + [row], line)
+
+
+def cases(step):
+    """The cases: of the exchanges one in so many."""
+    meanings = judge.meanings(ROWS)
+    found = {"every_rule": case(ROWS, judge.verdict(ROWS))}
+    for number, (at, line) in list(enumerate(exchanged()))[::step]:
+        found[f"exchanged_{number}"] = after(at, line, meanings)
     for number, line in enumerate(FALSE_SIDES):
-        found[f"false_side_{number}"] = case(ROWS + [line])
+        found[f"false_side_{number}"] = after(len(ROWS), line, meanings)
     return found

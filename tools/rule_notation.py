@@ -10,20 +10,31 @@ RULES = pathlib.Path(__file__).resolve().parent / "rules.txt"
 # Words within a rule's name, as they stand in the names of variants.
 WORDS = {
     "tyeq": "TyEq", "tmeq": "TmEq", "wkname": "WkName", "wkface": "WkFace", "tycong": "TyCong",
-    "ucong": "UCong", "papp": "PApp", "plam": "PLam", "natrec": "NatRec",
+    "ucong": "UCong", "papp": "PApp", "plam": "PLam", "natrec": "NatRec", "tyleft": "TyLeft",
+    "tyright": "TyRight", "tyface": "TyFace", "uface": "UFace",
 }
 
-# Operators that rules speak of: the variant of `Op`, and the number of kids.
+# The operators: the variant of `Op`, and for each kid how many variables or names it binds.
 OPERATORS = {
-    "U": ("U", 0), "pi": ("Pi", 2), "lam": ("Lam", 2), "app": ("App", 2), "sig": ("Sig", 2),
-    "pair": ("Pair", 2), "fst": ("Fst", 1), "snd": ("Snd", 1), "pathp": ("PathP", 3),
-    "plam": ("PLam", 1), "papp": ("PApp", 2), "nat": ("Nat", 0), "zero": ("Zero", 0),
-    "suc": ("Suc", 1), "natrec": ("NatRec", 4), "i0": ("I0", 0), "i1": ("I1", 0), "f0": ("F0", 0),
-    "join": ("Join", 2),
+    "i0": ("I0", ""), "i1": ("I1", ""), "neg": ("Neg", "0"), "min": ("Min", "00"),
+    "max": ("Max", "00"), "f0": ("F0", ""), "f1": ("F1", ""), "eq0": ("Eq0", "0"),
+    "eq1": ("Eq1", "0"), "meet": ("Meet", "00"), "join": ("Join", "00"), "all": ("All", "1"),
+    "U": ("U", ""), "pi": ("Pi", "01"), "lam": ("Lam", "01"), "app": ("App", "00"),
+    "sig": ("Sig", "01"), "pair": ("Pair", "00"), "fst": ("Fst", "0"), "snd": ("Snd", "0"),
+    "pathp": ("PathP", "100"), "plam": ("PLam", "1"), "papp": ("PApp", "00"), "nat": ("Nat", ""),
+    "zero": ("Zero", ""), "suc": ("Suc", "0"), "natrec": ("NatRec", "1000"),
+    "sys": ("Sys", "0000"), "empty": ("Empty", ""), "comp": ("Comp", "1010"),
+    "Glue": ("GlueType", "0000"), "glue": ("Glue", "000"), "unglue": ("Unglue", "0000"),
 }
+BINDS = {word: [int(bind) for bind in binds] for word, (_, binds) in OPERATORS.items()}
 
 # Trees that are made of others: their parts, and what they are.
 DERIVED = {"motive_step": (["P"], "pi nat (pi P P[push (shift 2) (suc (var 1))])")}
+
+# Trees that programs of their own make, and how many trees each is made of.
+CALLED = {
+    "equiv": 2, "comp_pi": 5, "comp_sig": 5, "comp_path": 6, "comp_glue": 7, "comp_u": 3,
+}
 
 # The kinds of parts; those of other letters are trees.
 KINDS = {"G": "Context", "H": "Context", "K": "Context", "d": "Subst", "e": "Subst"}
@@ -126,8 +137,9 @@ class Reader:
         if word == "var":
             self.take()
             return ("var", int(self.take()))
-        for form, count in (("make", OPERATORS.get(word, (None, 0))[1]),
-                            ("derived", len(DERIVED.get(word, ([], None))[0]))):
+        for form, count in (("make", len(OPERATORS.get(word, (None, ""))[1])),
+                            ("derived", len(DERIVED.get(word, ([], None))[0])),
+                            ("called", CALLED.get(word, 0))):
             if count:
                 self.take()
                 return (form, word, [self.atom() for _ in range(count)])

@@ -4,7 +4,8 @@ ends.
 
 The one run that the gate makes of the program has no words, so this looks at how it reads them and
 the disk. `rt try --cases` builds the program once; each case is a file, the words with `{}` for its
-path, a line and a status. `rule_cases.py` has those of the rules.
+path, a line and a status. `rule_cases.py` has those of the rules, of which one in ten is tried, and
+all with the word `all`.
 """
 import pathlib
 import subprocess
@@ -25,7 +26,7 @@ CASES = {
     "other_word": (TWO, ["judge", "{}"], USAGE, 2),
     "no_words": (TWO, [], USAGE, 2),
     "after_dashes": (TWO, ["replay", "--", "{}"], YES, 0),
-} | rule_cases.cases()
+} | rule_cases.cases(1 if sys.argv[1:] == ["all"] else 10)
 
 
 def lay_out(folder):

@@ -3,14 +3,17 @@
 
 Written are, in place of what stood there: the families and the table of names in
 `theory/src/rule.rt`, signatures in `theory/src/signatures.rt` and `theory/specs/RuleNames.antt`,
-the lines of `rules/specs/Table.antt`, the programs in `rules/src/table/`, and the tables of
+the lines of `rules/specs/Table.antt`, the programs in `rules/src/table/`, those of derived trees
+(`kan_trees.py`), the depths of parts in `stability/specs/Depths.antt`, and the tables of
 `docs/RULES.md`. Nothing of it is trusted: the lines of `Table.antt` are read against `rules.txt` by
 eye, and a wrong signature or program fails its own line. Run `rt fmt` in both crates afterwards.
 """
 import copy
 import pathlib
 import re
+import textwrap
 
+from kan_trees import derived_trees
 from rule_notation import DERIVED, OPERATORS, Reader, families
 
 ROOT = pathlib.Path(__file__).resolve().parent.parent
@@ -22,13 +25,17 @@ BEGIN, END = "Written by tools/write_rules.py from here on.", "Written by hand f
 # The table.
 
 
+# Operators whose words are others in the table.
+TABLE_WORDS = {"U": "universe", "Glue": "glue_type"}
+
+
 def said(thing, nested=False):
     """A thing as the table says it, in brackets where it is nested and of several words."""
     word, *rest = thing
     if word == "part":
         return rest[0]
-    if word in ("make", "derived"):
-        words = [{"U": "universe"}.get(rest[0], rest[0])] + [said(kid, True) for kid in rest[1]]
+    if word in ("make", "derived", "called"):
+        words = [TABLE_WORDS.get(rest[0], rest[0])] + [said(kid, True) for kid in rest[1]]
     elif word in ("var", "shift"):
         words = [{"var": "var", "shift": "shift_by"}[word], str(rest[0])]
     else:
@@ -201,12 +208,19 @@ INSTRUCTIONS = {
 }
 
 
+# Operators whose instructions have other names.
+OTHERS = {
+    "U": "UNIVERSE", "i0": "END_0", "i1": "END_1", "f0": "NO_FACE", "f1": "WHOLE_FACE",
+    "eq0": "EQ_0", "eq1": "EQ_1", "Glue": "GLUE_TYPE",
+}
+
+
 def instructions(thing, parts):
     """A thing as a list of instructions, in prefix order. The parts are those of its rule."""
     word, *rest = thing
     if word == "part":
         return [f"{rest[0].upper()}{parts.index(rest[0])}"]
-    if word == "make":
+    if word in ("make", "called"):
         return [operator(rest[0])] + joined(rest[1], parts)
     if word == "derived":
         letters, text = DERIVED[rest[0]]
@@ -229,8 +243,7 @@ def joined(things, parts):
 
 def operator(word):
     """The name of the instruction that makes an operator. A part has a letter and a place."""
-    other = {"U": "UNIVERSE", "i0": "END_0", "i1": "END_1", "f0": "NO_FACE"}
-    return other.get(word) or word.upper()
+    return OTHERS.get(word) or word.upper()
 
 
 def put_parts(thing, given):
@@ -297,13 +310,129 @@ def programs(family):
     ])
 
 
-def named_instructions(found):
+# How deep the parts of rules stand.
+
+# The families of rules that a context and trees are the parts of.
+STABLE = ("Equality", "Universe", "Pi", "Sigma", "Paths", "Naturals", "Systems", "Composition",
+          "Gluing")
+
+
+def depths(rule):
+    """Under how many entries each tree stands that is a part of the rule, by its first place."""
+    found = {}
+    for _, (context, *trees) in rule.wants + [rule.gives]:
+        depth = entries(context, found)
+        for tree in trees:
+            find_depths(tree, depth, found)
+    return [found[part] for part, kind in zip(rule.parts, rule.kinds()) if kind == "Term"]
+
+
+def entries(context, found):
+    """The number of variables and names of a context; finds the depths of its trees."""
+    word, *rest = context
+    if word in ("part", "nil"):
+        return 0
+    count = entries(rest[0], found)
+    if len(rest) > 1:
+        find_depths(rest[1], count, found)
+    return count + (word != "with_face")
+
+
+def find_depths(tree, depth, found):
+    word, *rest = tree
+    if word == "part":
+        found.setdefault(rest[0], depth)
+    elif word == "make":
+        for kid, binds in zip(rest[1], OPERATORS[rest[0]][1]):
+            find_depths(kid, depth + int(binds), found)
+
+
+def depth_lines(found):
+    lines = []
+    for family in (family for family in found if family.variant in STABLE):
+        lines.append(f"abbrev pub {family.word}_depths : {family.enum} → List ℕ")
+        lines += [f"{family.word}_depths {rule.variant} = {listed([str(n) for n in depths(rule)])}"
+                  for rule in family.rules]
+        lines.append("")
+    return lines
+
+
+# Programs of derived trees.
+
+
+def kan_operators():
+    """The names of instructions of the operators, as the table words them."""
+    return {TABLE_WORDS.get(word, word): operator(word) for word in OPERATORS}
+
+
+def derived_enum(trees):
+    lines = ["/// A tree that is made of others, and that a program of its own makes. What each is stands in",
+             "/// `specs/Table.antt`.", "#[derive(Clone, Copy, Debug, PartialEq, Eq)]",
+             "pub enum Derived {"]
+    lines += [f"    {tree.variant}," for tree in trees] + ["}", ""]
+    arms = [f"        Derived::{tree.variant} => {len(tree.parts)}," for tree in trees]
+    lines += ["/// The number of trees that a derived tree is made of.",
+              "pub fn arity(derived: Derived) -> usize", "    ensures { result ≡ arity_of derived }",
+              "{", "    match derived {", *arms, "    }", "}"]
+    return lines
+
+
+def derived_specs(trees):
+    lines = ["-- how many trees each is made of", "abbrev pub arity_of : Derived → ℕ"]
+    lines += [f"arity_of {tree.variant} = {len(tree.parts)}" for tree in trees]
+    lines += ["", "abbrev pub derived : (d : Derived) → TreeOver (arity_of d)"]
+    lines += [f"derived {tree.variant} = {tree.name} trees" for tree in trees]
+    lines += ["", "-- the program of each calls those of lower ranks", "abbrev pub rank_of : Derived → ℕ"]
+    lines += [f"rank_of {tree.variant} = {tree.rank}" for tree in trees]
+    lines += ["", "-- how many rows the program of each makes", "abbrev pub rows_of : Derived → ℕ"]
+    return lines + [f"rows_of {tree.variant} = {tree.rows}" for tree in trees]
+
+
+def derived_arm(tree):
+    """The arm of a derived tree: its program in filled lines, which the macro keeps as they are."""
+    text = textwrap.fill(", ".join(tree.program), WIDTH, initial_indent=" " * 12,
+                         subsequent_indent=" " * 12)
+    return f"        Derived::{tree.variant} => program! {{\n{text}\n        }},"
+
+
+def derived_programs(trees):
+    words = {word for tree in trees for word in tree.program}
+    made_by = sorted({"Instance", "Push", "Shift", "Var"} & {re.sub(r"\(.*", "", w) for w in words})
+    arms = "\n".join(derived_arm(tree) for tree in trees)
+    return f"""//! The programs of derived trees.
+
+ghost use Rattle.rules.specs.Schemas.{{Makes}};
+
+use super::named::*;
+use crate::derived::Derived;
+use crate::instruction::Instruction::{{{', '.join(made_by)}}};
+use crate::program::Place;
+
+/// A list of instructions, in as many lines as they fill.
+macro_rules! program {{
+    ($($instruction:expr),*) => {{ &[$($instruction),*] }};
+}}
+
+/// The program of a derived tree.
+pub fn derivation(derived: Derived) -> Place
+    ensures {{ Makes derived result.now }}
+{{
+    match derived {{
+{arms}
+    }}
+}}
+"""
+
+
+def named_instructions(found, trees):
     words = words_in("\n".join(wanted(rule) + schema(rule, False)
                                for family in found for rule in family.rules))
+    words |= {word for tree in trees for word in tree.program}
     parts = sorted(word for word in words if re.fullmatch(r"[A-Z]\d+", word))
     made = sorted((operator(word), op) for word, (op, _) in OPERATORS.items())
     values = [("ID", "Shift(0)"), ("UP", "Shift(1)")]
     values += [(name, f"Make(Op::{op})") for name, op in made if name in words]
+    values += [(tree.name.upper(), f"Call(Derived::{tree.variant})") for tree in trees]
     values += [(part, f"Part({part[1:]})") for part in parts]
     lines = "\n".join(f"pub const {name}: Instruction = {value};\n" for name, value in values)
     return f"""//! The instructions that programs of rules are full of.
@@ -311,7 +440,8 @@ def named_instructions(found):
 //! A part is named by its letter in the rule and its place: `A3` is part 3, which the rule calls A
 //! or a.
 
-use crate::instruction::Instruction::{{self, Make, Part, Shift}};
+use crate::derived::Derived;
+use crate::instruction::Instruction::{{self, Call, Make, Part, Shift}};
 use theory::Op;
 
 {lines}"""
@@ -377,7 +507,14 @@ def main():
         marks = f"<!-- {family.variant} -->", "<!-- end -->"
         put(ROOT / "docs" / "RULES.md", marks[0], document_table(family), marks[1])
         (RULES / "src" / "table" / f"{family.variant.lower()}.rt").write_text(programs(family))
-    (RULES / "src" / "table" / "named.rt").write_text(named_instructions(found))
+    stable = ROOT / "crates" / "stability" / "specs" / "Depths.antt"
+    put(stable, f"-- {BEGIN}", [""] + depth_lines(found)[:-1] + [""])
+    put_imports(stable, [family for family in found if family.variant in STABLE])
+    trees = derived_trees(kan_operators())
+    put(RULES / "src" / "derived.rt", f"// {BEGIN}", [""] + derived_enum(trees) + [""])
+    put(RULES / "specs" / "DerivedTrees.antt", f"-- {BEGIN}", [""] + derived_specs(trees) + [""], f"-- {END}")
+    (RULES / "src" / "table" / "derived.rt").write_text(derived_programs(trees))
+    (RULES / "src" / "table" / "named.rt").write_text(named_instructions(found, trees))
 
 
 if __name__ == "__main__":

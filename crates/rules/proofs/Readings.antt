@@ -12,6 +12,7 @@ use Rattle.trees.specs.Things.{Thing, ATree, ASubst, AContext}
 use Rattle.theory.specs.declared.rule.RuleName.{RuleName}
 use Rattle.theory.specs.declared.rule.RuleName.TheVariants.{Contexts, Instances, Equality}
 use Rattle.theory.specs.declared.rule.RuleName.TheVariants.{Universe, Pi, Sigma, Paths, Naturals}
+use Rattle.theory.specs.declared.rule.RuleName.TheVariants.{Systems, Composition, Gluing}
 use Rattle.theory.specs.declared.rule.ContextRule.TheVariants.{CtxNil}
 use Rattle.theory.specs.declared.rule.InstanceRule.TheVariants.{TySub}
 use Rattle.theory.specs.declared.rule.EqualityRule.TheVariants.{TyEqRefl}
@@ -20,11 +21,14 @@ use Rattle.theory.specs.declared.rule.PiRule.TheVariants.{PiTy}
 use Rattle.theory.specs.declared.rule.SigmaRule.TheVariants.{SigTy}
 use Rattle.theory.specs.declared.rule.PathRule.TheVariants.{PathTy}
 use Rattle.theory.specs.declared.rule.NatRule.TheVariants.{NatU}
+use Rattle.theory.specs.declared.rule.SystemRule.TheVariants.{SysTy}
+use Rattle.theory.specs.declared.rule.CompRule.TheVariants.{Comp}
+use Rattle.theory.specs.declared.rule.GlueRule.TheVariants.{GlueTy}
 use Rattle.theory.specs.RuleNames.{kinds_of, premises_of}
 use Rattle.rules.specs.Table.{Over}
 use Rattle.rules.specs.Rules.{tree_rule, over_parts, rule_at, AtAllParts, AtAll, AtAllCases}
 use Rattle.rules.specs.Run.{rows_of_all}
-use Rattle.rules.specs.Schemas.{judgement_of, condition_of, places_of, test_places, fits, has_then, all_fit, plain_fit, most_rows, is_bounded, Says, Means}
+use Rattle.rules.specs.Schemas.{judgement_of, condition_of, places_of, test_places, fits, has_then, all_fit, plain_fit, most_rows, most_wanted, is_bounded, Says, Means}
 use Rattle.rules.specs.Claims.{rule_over, premise_at, side_at, sides_in, conclusion_of}
 use Rattle.rules.specs.declared.instruction.Instruction.{Instruction}
 use Rattle.rules.specs.declared.program.Program.{Program}
@@ -49,6 +53,12 @@ at_all (Paths PathTy) P h = h
 at_all (Paths name) P h = h
 at_all (Naturals NatU) P h = h
 at_all (Naturals name) P h = h
+at_all (Systems SysTy) P h = h
+at_all (Systems name) P h = h
+at_all (Composition Comp) P h = h
+at_all (Composition name) P h = h
+at_all (Gluing GlueTy) P h = h
+at_all (Gluing name) P h = h
 
 -- what holds of all parts holds where the rule stands
 pub record AtParts (kinds : List PartKind) (r : Over trees kinds) (P : List Thing → TreeRule → Type 0) (xs : List Thing) : Type 0 where
@@ -129,27 +139,26 @@ pub record Reading (name : RuleName) (s : Schema) (P : Option (List Thing)) : Ty
   pub count : length s.wants.now ≡ premises_of name
   pub wants : (k : ℕ) (d : Program) → k < length s.wants.now → judgement_of P (get_or s.wants.now k d) ≡ premise_at k (rule_over name P)
   pub wants_some : (k : ℕ) (d : Program) → k < length s.wants.now → IsSome (judgement_of P (get_or s.wants.now k d))
-  pub wants_fit : (k : ℕ) (d : Program) → k < length s.wants.now → Fit (most_rows name) (places_of (get_or s.wants.now k d))
+  pub wants_fit : (k : ℕ) (d : Program) → k < length s.wants.now → Fit most_wanted (places_of (get_or s.wants.now k d))
   pub wants_plain : (k : ℕ) (d : Program) → k < length s.wants.now → IsTrue (list_any has_then (places_of (get_or s.wants.now k d))) → ⊥
   pub sides : (k : ℕ) (d : Test) → k < length s.sides.now → condition_of P (get_or s.sides.now k d) ≡ side_at k (rule_over name P)
   pub sides_some : (k : ℕ) (d : Test) → k < length s.sides.now → IsSome (condition_of P (get_or s.sides.now k d))
-  pub sides_fit : (k : ℕ) (d : Test) → k < length s.sides.now → Fit (most_rows name) (test_places (get_or s.sides.now k d))
+  pub sides_fit : (k : ℕ) (d : Test) → k < length s.sides.now → Fit most_wanted (test_places (get_or s.sides.now k d))
   pub sides_plain : (k : ℕ) (d : Test) → k < length s.sides.now → IsTrue (list_any has_then (test_places (get_or s.sides.now k d))) → ⊥
   pub sides_count : length s.sides.now ≡ sides_in (rule_over name P)
 
 record Bounds (name : RuleName) (s : Schema) : Type 0 where
   pub count : length s.wants.now ≡ premises_of name
-  pub wants : list_all (λ p. plain_fit (most_rows name) (places_of p)) s.wants.now ≡ true
-  pub sides : list_all (λ t. plain_fit (most_rows name) (test_places t)) s.sides.now ≡ true
+  pub wants : list_all (λ p. plain_fit most_wanted (places_of p)) s.wants.now ≡ true
+  pub sides : list_all (λ t. plain_fit most_wanted (test_places t)) s.sides.now ≡ true
   pub gives : all_fit (most_rows name) (places_of s.gives) ≡ true
 
 bounds : (name : RuleName) (s : Schema) → is_bounded name s ≡ true → Bounds name s
 bounds name s e =
-    let most = most_rows name in
     let a = length s.wants.now == premises_of name in
-    let b = list_all (λ p. plain_fit most (places_of p)) s.wants.now in
-    let c = list_all (λ t. plain_fit most (test_places t)) s.sides.now in
-    let last = and_parts (a && b && c) (all_fit most (places_of s.gives)) e in
+    let b = list_all (λ p. plain_fit most_wanted (places_of p)) s.wants.now in
+    let c = list_all (λ t. plain_fit most_wanted (test_places t)) s.sides.now in
+    let last = and_parts (a && b && c) (all_fit (most_rows name) (places_of s.gives)) e in
     let third = and_parts (a && b) c last.0 in
     let first = and_parts a b third.0 in
     record { count = eqb-true (length s.wants.now) (premises_of name) first.0; wants = first.1; sides = third.1; gives = last.1 }
@@ -170,12 +179,12 @@ reading name s (Some xs) m some =
       count = b.count;
       wants = λ k d lt. some_inside (slice_get a.rule.wants k) _ (agree_at (judgement_of (Some xs)) Some s.wants.now a.rule.wants h.0 k d lt) ∙ sym (ap (premise_at k) r);
       wants_some = λ k d lt. is_some (slice_get a.rule.wants k) _ (agree_at (judgement_of (Some xs)) Some s.wants.now a.rule.wants h.0 k d lt);
-      wants_fit = λ k d lt. plain_of (most_rows name) (places_of (get_or s.wants.now k d)) (AllPass-from_list_all (λ p. plain_fit (most_rows name) (places_of p)) s.wants.now b.wants k d lt);
-      wants_plain = λ k d lt. no_then (most_rows name) (places_of (get_or s.wants.now k d)) (AllPass-from_list_all (λ p. plain_fit (most_rows name) (places_of p)) s.wants.now b.wants k d lt);
+      wants_fit = λ k d lt. plain_of most_wanted (places_of (get_or s.wants.now k d)) (AllPass-from_list_all (λ p. plain_fit most_wanted (places_of p)) s.wants.now b.wants k d lt);
+      wants_plain = λ k d lt. no_then most_wanted (places_of (get_or s.wants.now k d)) (AllPass-from_list_all (λ p. plain_fit most_wanted (places_of p)) s.wants.now b.wants k d lt);
       sides = λ k d lt. some_inside (slice_get a.rule.sides k) _ (agree_at (condition_of (Some xs)) Some s.sides.now a.rule.sides h.1 k d lt) ∙ sym (ap (side_at k) r);
       sides_some = λ k d lt. is_some (slice_get a.rule.sides k) _ (agree_at (condition_of (Some xs)) Some s.sides.now a.rule.sides h.1 k d lt);
-      sides_fit = λ k d lt. plain_of (most_rows name) (test_places (get_or s.sides.now k d)) (AllPass-from_list_all (λ t. plain_fit (most_rows name) (test_places t)) s.sides.now b.sides k d lt);
-      sides_plain = λ k d lt. no_then (most_rows name) (test_places (get_or s.sides.now k d)) (AllPass-from_list_all (λ t. plain_fit (most_rows name) (test_places t)) s.sides.now b.sides k d lt);
+      sides_fit = λ k d lt. plain_of most_wanted (test_places (get_or s.sides.now k d)) (AllPass-from_list_all (λ t. plain_fit most_wanted (test_places t)) s.sides.now b.sides k d lt);
+      sides_plain = λ k d lt. no_then most_wanted (test_places (get_or s.sides.now k d)) (AllPass-from_list_all (λ t. plain_fit most_wanted (test_places t)) s.sides.now b.sides k d lt);
       sides_count = sym (length-map s.sides.now (condition_of (Some xs))) ∙ ap length h.1 ∙ length-map a.rule.sides Some ∙ sym (ap sides_in r);
     }
 

@@ -3,12 +3,10 @@ use Rattle.std.proofs.Common.{◌≡◌, ℕ, zero, suc, ◌<◌, ◌≤◌, Lis
 use Rattle.std.specs.Prelude.{slice_get, option_and_then}
 use Rattle.std.proofs.lemmas.Bool.{leb-true}
 use Rattle.std.proofs.lemmas.Option.{slice_get_within}
-use Rattle.trees.specs.declared.op.Op.{Op}
-use Rattle.trees.specs.Operators.{kids_of}
 use Rattle.trees.specs.Trees.{shift_by, greatest_shift}
-use Rattle.trees.specs.Things.{Thing, ASubst, Meanings, Kept, both, consed, meanings, made}
+use Rattle.trees.specs.Things.{Thing, ASubst, Meanings, Kept, both, consed, meanings}
 use Rattle.trees.proofs.Meanings.{MeansCons, meanings-cons, meanings-length, meanings-at, meanings-drop, meanings-kept}
-use Rattle.rules.specs.Run.{exactly, make_on, part_on, one_on, two_on, shift_on}
+use Rattle.rules.specs.Run.{exactly, many_on, part_on, one_on, two_on, shift_on}
 
 -- a part
 
@@ -103,7 +101,7 @@ two_of h f stack a b rest e some = from (f a) (f b) (meanings f rest) refl refl 
     from (Some x) (Some y) None ea eb er some = cc
     from (Some x) (Some y) (Some xs) ea eb er some = whole x y xs (h x y) ea eb er refl some
 
--- an operator
+-- an operator or a derived tree
 
 -- the first n rows mean the first n things
 record Prefix (f : Meanings) (n : ℕ) (stack : List ℕ) (ys : List Thing) : Type 0 where
@@ -124,30 +122,32 @@ prefix f (suc n) (k ∷ ks) xs ys e ey =
         let h = below zs er in
         record { enough = let g = h.enough in omega arith; means = rw (m.first_is, h.means) e }
 
-pub record MakesOf (f : Meanings) (op : Op) (stack : List ℕ) : Type 0 where
-  pub enough : kids_of op ≤ length stack
-  pub live : IsSome (option_and_then (made op) (meanings f (take (kids_of op) stack)))
-  pub stacked : (g : Meanings) (row : ℕ) → Kept f g → g row ≡ option_and_then (made op) (meanings f (take (kids_of op) stack)) → both consed (g row) (meanings g (drop (kids_of op) stack)) ≡ option_and_then (make_on op) (meanings f stack)
+pub record ManyOf (n : ℕ) (h : List Thing → Option Thing) (f : Meanings) (stack : List ℕ) : Type 0 where
+  pub enough : n ≤ length stack
+  pub means : IsSome (meanings f (take n stack))
+  pub live : IsSome (option_and_then h (meanings f (take n stack)))
+  pub stacked : (g : Meanings) (row : ℕ) → Kept f g → g row ≡ option_and_then h (meanings f (take n stack)) → both consed (g row) (meanings g (drop n stack)) ≡ option_and_then (many_on n h) (meanings f stack)
 
-pub makes_of : (f : Meanings) (op : Op) (stack : List ℕ) → IsSome (option_and_then (make_on op) (meanings f stack)) → MakesOf f op stack
-makes_of f op stack some = from (meanings f stack) refl some
+pub many_of : (n : ℕ) (h : List Thing → Option Thing) (f : Meanings) (stack : List ℕ) → IsSome (option_and_then (many_on n h) (meanings f stack)) → ManyOf n h f stack
+many_of n h f stack some = from (meanings f stack) refl some
   where
-    whole : (xs ys : List Thing) (o : Option Thing) → meanings f stack ≡ Some xs → exactly (kids_of op) xs ≡ Some ys → made op ys ≡ o → IsSome (option_and_then (λ x. Some (x ∷ drop (kids_of op) xs)) o) → MakesOf f op stack
+    whole : (xs ys : List Thing) (o : Option Thing) → meanings f stack ≡ Some xs → exactly n xs ≡ Some ys → h ys ≡ o → IsSome (option_and_then (λ x. Some (x ∷ drop n xs)) o) → ManyOf n h f stack
     whole xs ys None es ey eo some = cc
     whole xs ys (Some x) es ey eo some =
-        let h = prefix f (kids_of op) stack xs ys es ey in
-        let rest = meanings-drop f (kids_of op) stack xs es in
-        let all : option_and_then (made op) (meanings f (take (kids_of op) stack)) ≡ Some x = ap (option_and_then (made op)) h.means ∙ eo in
+        let p = prefix f n stack xs ys es ey in
+        let rest = meanings-drop f n stack xs es in
+        let all : option_and_then h (meanings f (take n stack)) ≡ Some x = ap (option_and_then h) p.means ∙ eo in
         record {
-          enough = h.enough;
+          enough = p.enough;
+          means = rw p.means refl;
           live = rw all refl;
-          stacked = λ g row kept e. rw (e, all, meanings-kept f g kept (drop (kids_of op) stack) (drop (kids_of op) xs) rest, es, ey, eo) refl;
+          stacked = λ g row kept e. rw (e, all, meanings-kept f g kept (drop n stack) (drop n xs) rest, es, ey, eo) refl;
         }
 
-    taken : (xs : List Thing) (r : Option (List Thing)) → meanings f stack ≡ Some xs → exactly (kids_of op) xs ≡ r → IsSome (option_and_then (λ x. Some (x ∷ drop (kids_of op) xs)) (option_and_then (made op) r)) → MakesOf f op stack
+    taken : (xs : List Thing) (r : Option (List Thing)) → meanings f stack ≡ Some xs → exactly n xs ≡ r → IsSome (option_and_then (λ x. Some (x ∷ drop n xs)) (option_and_then h r)) → ManyOf n h f stack
     taken xs None es er some = cc
-    taken xs (Some ys) es er some = whole xs ys (made op ys) es er refl some
+    taken xs (Some ys) es er some = whole xs ys (h ys) es er refl some
 
-    from : (s : Option (List Thing)) → meanings f stack ≡ s → IsSome (option_and_then (make_on op) s) → MakesOf f op stack
+    from : (s : Option (List Thing)) → meanings f stack ≡ s → IsSome (option_and_then (many_on n h) s) → ManyOf n h f stack
     from None es some = cc
-    from (Some xs) es some = taken xs (exactly (kids_of op) xs) es refl some
+    from (Some xs) es some = taken xs (exactly n xs) es refl some

@@ -10,9 +10,13 @@ use Rattle.theory.specs.declared.rule.PiRule.TheVariants.{PiTy}
 use Rattle.theory.specs.declared.rule.SigmaRule.TheVariants.{SigTy}
 use Rattle.theory.specs.declared.rule.PathRule.TheVariants.{PathTy}
 use Rattle.theory.specs.declared.rule.NatRule.TheVariants.{NatU}
+use Rattle.theory.specs.declared.rule.SystemRule.TheVariants.{SysTy}
+use Rattle.theory.specs.declared.rule.CompRule.TheVariants.{Comp}
+use Rattle.theory.specs.declared.rule.GlueRule.TheVariants.{GlueTy}
 use Rattle.theory.specs.declared.rule.RuleName.{RuleName}
 use Rattle.theory.specs.declared.rule.RuleName.TheVariants.{Contexts, Instances, Equality}
 use Rattle.theory.specs.declared.rule.RuleName.TheVariants.{Universe, Pi, Sigma, Paths, Naturals}
+use Rattle.theory.specs.declared.rule.RuleName.TheVariants.{Systems, Composition, Gluing}
 use Rattle.trees.specs.Judgements.{trees, TreeRule}
 use Rattle.theory.specs.RuleNames.{kinds_of, premises_of}
 use Rattle.trees.specs.Things.{Thing, ATree, ASubst, AContext, kind_of}
@@ -38,6 +42,12 @@ counted (Paths PathTy) = search rules
 counted (Paths _) = search rules
 counted (Naturals NatU) = search rules
 counted (Naturals _) = search rules
+counted (Systems SysTy) = search rules
+counted (Systems _) = search rules
+counted (Composition Comp) = search rules
+counted (Composition _) = search rules
+counted (Gluing GlueTy) = search rules
+counted (Gluing _) = search rules
 
 -- the side conditions of a rule are few
 few : (name : RuleName) → AtAll name (λ xs r. length r.sides ≤ 16)
@@ -57,6 +67,12 @@ few (Paths PathTy) = search rules
 few (Paths _) = search rules
 few (Naturals NatU) = search rules
 few (Naturals _) = search rules
+few (Systems SysTy) = search rules
+few (Systems _) = search rules
+few (Composition Comp) = search rules
+few (Composition _) = search rules
+few (Gluing GlueTy) = search rules
+few (Gluing _) = search rules
 
 -- what holds at all parts holds of the rule at these
 pub at_these : (name : RuleName) (P : List Thing → TreeRule → Type 0) → AtAll name P → (xs : List Thing) (r : TreeRule) → rule_at name xs ≡ Some r → P xs r

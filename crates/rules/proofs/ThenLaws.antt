@@ -11,7 +11,7 @@ use Rattle.rows.specs.Views.{ShiftAtMost}
 use Rattle.rules.specs.declared.instruction.Instruction.{Instruction}
 use Rattle.rules.specs.declared.instruction.Instruction.TheVariants as make
 use Rattle.rules.specs.Run.{part_on, shift_on, two_on, stepped, run, is_then, then_takes}
-use Rattle.rules.specs.Schemas.{thens_fit, has_then, fits}
+use Rattle.rules.specs.Schemas.{thens_fit, has_then, fits, is_shallow}
 use Rattle.rules.proofs.RunLaws.{run-drop, run-one}
 use Rattle.rules.specs.Shifts.{ShiftFits, ShiftsFit, ThenFits}
 
@@ -140,5 +140,5 @@ then_fits_at old now parts place stack k j d lt next fit live runs small e =
     let xs = s.value in
     let runs' : IsSome (run place (Some xs)) = rw (s.is) at runs in
     let step : IsSome (stepped (get_or place j d) (Some xs) (run (drop k place) (Some xs))) = rw (← run-one place (Some xs) k j d lt next) (run-drop place (Some xs) j runs') in
-    let there : (not (is_then (get_or place j d)) || then_takes (drop k place)) ≡ true = rw next (thens_at place j d lt (and_parts (nat_le (length place) 16) (thens_fit place) fit).1) in
+    let there : (not (is_then (get_or place j d)) || then_takes (drop k place)) ≡ true = rw next (thens_at place j d lt (and_parts (is_shallow place) (thens_fit place) fit).1) in
     then_fits now xs (drop k place) stack (get_or place j d) there (λ t. shifts_of (meanings old parts) xs s.is (small (has_then_at place j d lt t))) (e ∙ ap (run (drop k place)) s.is) step

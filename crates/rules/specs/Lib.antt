@@ -1,4 +1,5 @@
 pub mod Table
+pub mod DerivedTrees
 pub mod Rules
 pub mod Run
 pub mod Shifts

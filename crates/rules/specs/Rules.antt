@@ -6,6 +6,7 @@ use Rattle.theory.specs.declared.rule.RuleName.{RuleName}
 use Rattle.theory.specs.declared.rule.RuleName.TheVariants.{Contexts, Instances, Equality}
 use Rattle.theory.specs.declared.rule.RuleName.TheVariants.{Universe, Pi, Sigma, Paths}
 use Rattle.theory.specs.declared.rule.RuleName.TheVariants.{Naturals}
+use Rattle.theory.specs.declared.rule.RuleName.TheVariants.{Systems, Composition, Gluing}
 use Rattle.theory.specs.declared.rule.ContextRule.TheVariants.{CtxNil}
 use Rattle.theory.specs.declared.rule.InstanceRule.TheVariants.{TySub}
 use Rattle.theory.specs.declared.rule.EqualityRule.TheVariants.{TyEqRefl}
@@ -14,6 +15,9 @@ use Rattle.theory.specs.declared.rule.PiRule.TheVariants.{PiTy}
 use Rattle.theory.specs.declared.rule.SigmaRule.TheVariants.{SigTy}
 use Rattle.theory.specs.declared.rule.PathRule.TheVariants.{PathTy}
 use Rattle.theory.specs.declared.rule.NatRule.TheVariants.{NatU}
+use Rattle.theory.specs.declared.rule.SystemRule.TheVariants.{SysTy}
+use Rattle.theory.specs.declared.rule.CompRule.TheVariants.{Comp}
+use Rattle.theory.specs.declared.rule.GlueRule.TheVariants.{GlueTy}
 use Rattle.trees.specs.Trees.{Tree, Subst}
 use Rattle.trees.specs.Judgements.{Context, trees, TreeRule}
 use Rattle.trees.specs.Things.{Thing, ATree, ASubst, AContext}
@@ -69,3 +73,9 @@ AtAllCases (Paths PathTy) P = AtAll (Paths PathTy) P
 AtAllCases (Paths name) P = AtAll (Paths name) P
 AtAllCases (Naturals NatU) P = AtAll (Naturals NatU) P
 AtAllCases (Naturals name) P = AtAll (Naturals name) P
+AtAllCases (Systems SysTy) P = AtAll (Systems SysTy) P
+AtAllCases (Systems name) P = AtAll (Systems name) P
+AtAllCases (Composition Comp) P = AtAll (Composition Comp) P
+AtAllCases (Composition name) P = AtAll (Composition name) P
+AtAllCases (Gluing GlueTy) P = AtAll (Gluing GlueTy) P
+AtAllCases (Gluing name) P = AtAll (Gluing name) P

@@ -1,5 +1,6 @@
 -- What instructions make of a rule's parts: prefix notation, read from its end.
-use Rattle.std.specs.Prelude.{ℕ, zero, suc, ◌+◌, nat_le, cond, Bool, true, false, List, [], ◌∷◌}
+use Rattle.std.specs.Prelude.{ℕ, zero, suc, ◌+◌, ◌-◌, max, nat_le, cond, Bool, true, false}
+use Rattle.std.specs.Prelude.{List, [], ◌∷◌}
 use Rattle.std.specs.Prelude.{Option, Some, None, slice_get, drop, map, option_and_then}
 use Rattle.std.proofs.Common.{Bor}
 use Rattle.trees.specs.declared.op.Op.{Op}
@@ -8,6 +9,8 @@ use Rattle.trees.specs.Trees.{Var, shift_by, greatest_shift}
 use Rattle.trees.specs.Judgements.{Nil}
 use Rattle.trees.specs.Things.{Thing, ATree, ASubst, AContext, both, consed, made, instance_of}
 use Rattle.trees.specs.Things.{pushed_on, then_of, with_variable, with_a_name, with_a_face}
+use Rattle.rules.specs.declared.derived.Derived.{Derived}
+use Rattle.rules.specs.DerivedTrees.{arity_of, rank_of, rows_of, derived_over}
 use Rattle.rules.specs.declared.instruction.Instruction.{Instruction}
 use Rattle.rules.specs.declared.instruction.Instruction.TheVariants as make
 
@@ -21,10 +24,18 @@ exactly zero xs = Some []
 exactly (suc n) [] = None
 exactly (suc n) (x ∷ xs) = option_and_then (consed x) (exactly n xs)
 
--- the operator over the trees on top of the stack, in their place
+-- what comes of the first n things, in their place
+abbrev pub many_on : ℕ → (List Thing → Option Thing) → List Thing → Option (List Thing)
+many_on n f stack = option_and_then (λ x. Some (x ∷ drop n stack))
+    (option_and_then f (exactly n stack))
+
+-- the operator over the trees on top of the stack
 abbrev pub make_on : Op → List Thing → Option (List Thing)
-make_on op stack = option_and_then (λ x. Some (x ∷ drop (kids_of op) stack))
-    (option_and_then (made op) (exactly (kids_of op) stack))
+make_on op = many_on (kids_of op) (made op)
+
+-- the derived tree of the trees on top of the stack
+abbrev pub call_on : Derived → List Thing → Option (List Thing)
+call_on d = many_on (arity_of d) (derived_over d)
 
 -- what comes of the first thing, or of the first two, in their place
 abbrev pub one_on : (Thing → Option Thing) → List Thing → Option (List Thing)
@@ -53,6 +64,7 @@ stepped make.CtxNil parts stack = option_and_then (consed (AContext Nil)) stack
 stepped make.CtxVar parts stack = option_and_then (two_on with_variable) stack
 stepped make.CtxName parts stack = option_and_then (one_on with_a_name) stack
 stepped make.CtxFace parts stack = option_and_then (two_on with_a_face) stack
+stepped (make.Call d) parts stack = option_and_then (call_on d) stack
 
 -- the stack after all instructions, the last first
 abbrev pub run : List Instruction → Option (List Thing) → Option (List Thing)
@@ -80,6 +92,7 @@ things_of parts (place ∷ places) = both consed (thing_of parts place) (things_
 -- how many rows the instructions add at most
 abbrev pub rows_for : Instruction → ℕ
 rows_for (make.Part k) = 0
+rows_for (make.Call d) = rows_of d
 rows_for _ = 1
 
 abbrev pub rows_in : List Instruction → ℕ
@@ -89,6 +102,32 @@ rows_in (instruction ∷ rest) = rows_for instruction + rows_in rest
 abbrev pub rows_of_all : List (List Instruction) → ℕ
 rows_of_all [] = 0
 rows_of_all (place ∷ places) = rows_in place + rows_of_all places
+
+-- how many things an instruction takes off the stack
+abbrev pub takes : Instruction → ℕ
+takes (make.Make op) = kids_of op
+takes (make.Call d) = arity_of d
+takes make.Instance = 2
+takes make.Push = 2
+takes make.Then = 2
+takes make.CtxVar = 2
+takes make.CtxName = 1
+takes make.CtxFace = 2
+takes _ = 0
+
+-- how many things the instructions leave on it
+abbrev pub left : List Instruction → ℕ
+left [] = 0
+left (instruction ∷ rest) = left rest + 1 - takes instruction
+
+-- the rank from which on an instruction, and each of some, may be followed
+abbrev pub rank_for : Instruction → ℕ
+rank_for (make.Call d) = suc (rank_of d)
+rank_for _ = 0
+
+abbrev pub rank_in : List Instruction → ℕ
+rank_in [] = 0
+rank_in (instruction ∷ rest) = max (rank_for instruction) (rank_in rest)
 
 abbrev pub is_then : Instruction → Bool
 is_then make.Then = true

@@ -1,17 +1,26 @@
 -- What the programs of a rule say.
-use Rattle.std.specs.Prelude.{◌≡◌, ◌==◌, ◌&&◌, ◌||◌, not, Bool, true, ℕ, nat_le, nat_lt, List}
+use Rattle.std.specs.Prelude.{◌≡◌, ◌==◌, ◌&&◌, ◌||◌, not, Bool, true, ℕ, zero, suc}
+use Rattle.std.specs.Prelude.{nat_le, nat_lt, List}
 use Rattle.std.specs.Prelude.{[], ◌∷◌, Option, Some, None, map, length, option_and_then}
 use Rattle.std.specs.List.{list_all, list_any}
 use Rattle.theory.specs.declared.rule.RuleName.{RuleName}
+use Rattle.theory.specs.declared.rule.RuleName.TheVariants.{Composition}
+use Rattle.theory.specs.declared.rule.CompRule.TheVariants.{CompPi, CompSig, CompPath, CompGlue}
+use Rattle.theory.specs.declared.rule.CompRule.TheVariants.{CompU}
 use Rattle.theory.specs.RuleNames.{premises_of}
 use Rattle.trees.specs.declared.claim.JudgementForm.{JudgementForm}
 use Rattle.trees.specs.declared.claim.JudgementForm.TheVariants as form
 use Rattle.trees.specs.Language.{IsFormula, IsFace, Holds, Alike}
+use Rattle.trees.specs.Trees.{Tree}
 use Rattle.trees.specs.Judgements.{Judgement, SideCondition, TreeRule}
 use Rattle.trees.specs.Things.{Thing, ATree, ASubst, AContext}
 use Rattle.trees.specs.Claimed.{said}
 use Rattle.rules.specs.Rules.{AtAllCases}
-use Rattle.rules.specs.Run.{things_of, rows_of_all, is_then, then_takes}
+use Rattle.rules.specs.Run.{thing_of, things_of, rows_in, rows_of_all, is_then}
+use Rattle.rules.specs.Run.{then_takes, left, rank_in}
+use Rattle.rules.specs.declared.derived.Derived.{Derived}
+use Rattle.rules.specs.declared.derived.Derived.TheVariants.{Fill}
+use Rattle.rules.specs.DerivedTrees.{TreeOver, arity_of, derived, rank_of, rows_of}
 use Rattle.rules.specs.declared.instruction.Instruction.{Instruction}
 use Rattle.rules.specs.declared.program.Program.{Program}
 use Rattle.rules.specs.declared.program.Program.TheVariants as program
@@ -84,9 +93,23 @@ Says s parts r =
 
 -- how many rows the conclusion of a rule takes at most, with the row of its node
 abbrev pub most_rows : RuleName → ℕ
+most_rows (Composition CompPi) = 2048
+most_rows (Composition CompSig) = 2048
+most_rows (Composition CompPath) = 2048
+most_rows (Composition CompGlue) = 2048
+most_rows (Composition CompU) = 2048
 most_rows rule = 16
 
--- a place fits the stack, and each `then` takes what it may
+-- how many rows a premise or a side condition takes at most
+abbrev pub most_wanted : ℕ
+most_wanted = 64
+
+-- what the instructions make stands on a short stack
+abbrev pub is_shallow : List Instruction → Bool
+is_shallow [] = true
+is_shallow (instruction ∷ rest) = nat_le (left (instruction ∷ rest)) 16 && is_shallow rest
+
+-- each `then` takes what it may
 abbrev pub thens_fit : List Instruction → Bool
 thens_fit [] = true
 thens_fit (instruction ∷ rest) = (not (is_then instruction) || then_takes rest) && thens_fit rest
@@ -95,7 +118,7 @@ abbrev pub has_then : List Instruction → Bool
 has_then = list_any is_then
 
 abbrev pub fits : List Instruction → Bool
-fits place = nat_le (length place) 16 && thens_fit place
+fits place = is_shallow place && thens_fit place
 
 abbrev pub all_fit : ℕ → List (List Instruction) → Bool
 all_fit most places = list_all fits places && nat_lt (rows_of_all places) most
@@ -107,10 +130,35 @@ plain_fit most places = all_fit most places && not (list_any has_then places)
 abbrev pub is_bounded : RuleName → Schema → Bool
 is_bounded name s =
     length s.wants.now == premises_of name
-    && list_all (λ p. plain_fit (most_rows name) (places_of p)) s.wants.now
-    && list_all (λ t. plain_fit (most_rows name) (test_places t)) s.sides.now
+    && list_all (λ p. plain_fit most_wanted (places_of p)) s.wants.now
+    && list_all (λ t. plain_fit most_wanted (test_places t)) s.sides.now
     && all_fit (most_rows name) (places_of s.gives)
 
 -- the programs are those of the rule, and within its bounds
 abbrev pub Means : RuleName → Schema → Type 0
 Means name s = AtAllCases name (Says s) × (is_bounded name s ≡ true)
+
+-- Programs of derived trees.
+
+-- P holds of all trees of that number and of the tree over them
+abbrev pub AtAllTrees : (n : ℕ) → TreeOver n → (List Thing → Tree → Type 0) → Type 0
+AtAllTrees zero t P = P [] t
+AtAllTrees (suc n) f P = (t : Tree) → AtAllTrees n (f t) (λ xs u. P (ATree t ∷ xs) u)
+
+-- at all trees the program makes the derived tree
+abbrev pub MakesTree : Derived → List Instruction → Type 0
+MakesTree d place =
+    AtAllTrees (arity_of d) (derived d) (λ xs t. thing_of (Some xs) place ≡ Some (ATree t))
+
+-- it stands on a short stack, has no `then`, makes so many rows and calls lower ranks alone
+abbrev pub is_program : Derived → List Instruction → Bool
+is_program d place =
+    fits place
+    && not (has_then place)
+    && rows_in place == rows_of d
+    && nat_le (rank_in place) (rank_of d)
+
+-- The same by cases, so that it computes as soon as the tree is known.
+abbrev pub Makes : Derived → List Instruction → Type 0
+Makes Fill place = MakesTree Fill place × (is_program Fill place ≡ true)
+Makes d place = MakesTree d place × (is_program d place ≡ true)

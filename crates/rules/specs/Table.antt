@@ -32,12 +32,30 @@ use Rattle.theory.specs.declared.rule.PathRule.TheVariants.{PathRight, PathBeta,
 use Rattle.theory.specs.declared.rule.NatRule.{NatRule}
 use Rattle.theory.specs.declared.rule.NatRule.TheVariants.{NatU, Zero, Suc, SucCong, NatRec}
 use Rattle.theory.specs.declared.rule.NatRule.TheVariants.{NatRecCong, NatRecZero, NatRecSuc}
+use Rattle.theory.specs.declared.rule.SystemRule.{SystemRule}
+use Rattle.theory.specs.declared.rule.SystemRule.TheVariants.{SysTy, SysTm, SysTyLeft, SysTyRight}
+use Rattle.theory.specs.declared.rule.SystemRule.TheVariants.{SysLeft, SysRight, EmptyTy, EmptyTm}
+use Rattle.theory.specs.declared.rule.CompRule.{CompRule}
+use Rattle.theory.specs.declared.rule.CompRule.TheVariants.{Comp, CompFace, CompCong, CompPi}
+use Rattle.theory.specs.declared.rule.CompRule.TheVariants.{CompSig, CompPath, CompZero, CompSuc}
+use Rattle.theory.specs.declared.rule.CompRule.TheVariants.{CompGlue, CompU}
+use Rattle.theory.specs.declared.rule.GlueRule.{GlueRule}
+use Rattle.theory.specs.declared.rule.GlueRule.TheVariants.{GlueTy, GlueU, GlueTyFace, GlueUFace}
+use Rattle.theory.specs.declared.rule.GlueRule.TheVariants.{GlueTyCong, GlueUCong, Glue, GlueFace}
+use Rattle.theory.specs.declared.rule.GlueRule.TheVariants.{Unglue, UnglueFace, UnglueCong}
+use Rattle.theory.specs.declared.rule.GlueRule.TheVariants.{GlueBeta, GlueEta}
 use Rattle.theory.specs.declared.rule.RuleName.{RuleName}
 use Rattle.theory.specs.declared.rule.RuleName.TheVariants.{Contexts, Instances, Equality, Universe}
-use Rattle.theory.specs.declared.rule.RuleName.TheVariants.{Pi, Sigma, Paths, Naturals}
+use Rattle.theory.specs.declared.rule.RuleName.TheVariants.{Pi, Sigma, Paths, Naturals, Systems}
+use Rattle.theory.specs.declared.rule.RuleName.TheVariants.{Composition, Gluing}
 use Rattle.trees.specs.Language.{Language, JudgementOf, Rule, Ctx, Ty, TyEq, Tm, TmEq, Sb}
 use Rattle.trees.specs.Language.{IsFormula, IsFace, Holds, Alike}
 use Rattle.theory.specs.RuleNames.{kinds_of}
+
+-- a side of a system: a face, and a tree where it holds
+pub record Side (T : Type 0) : Type 0 where
+  pub face : T
+  pub body : T
 
 module _ (L : Language) where
   open L use {tree, subst, context, var, make, apply, shift_by, push, then}
@@ -74,11 +92,28 @@ module _ (L : Language) where
   abbrev pub i1 : tree
   i1 = make op.I1 []
 
+  abbrev pub neg : tree → tree
+  neg r = make op.Neg (r ∷ [])
+
+  abbrev pub min : tree → tree → tree
+  min r s = make op.Min (r ∷ s ∷ [])
+
   abbrev pub f0 : tree
   f0 = make op.F0 []
 
+  -- `(r=0)` and `(r=1)`
+  abbrev pub eq0 : tree → tree
+  eq0 r = make op.Eq0 (r ∷ [])
+
+  abbrev pub eq1 : tree → tree
+  eq1 r = make op.Eq1 (r ∷ [])
+
   abbrev pub join : tree → tree → tree
   join p q = make op.Join (p ∷ q ∷ [])
+
+  -- `all i.p`
+  abbrev pub all : tree → tree
+  all p = make op.All (p ∷ [])
 
   abbrev pub universe : tree
   universe = make op.U []
@@ -125,9 +160,300 @@ module _ (L : Language) where
   abbrev pub natrec : tree → tree → tree → tree → tree
   natrec P a b n = make op.NatRec (P ∷ a ∷ b ∷ n ∷ [])
 
+  abbrev pub sys : tree → tree → tree → tree → tree
+  sys p q a b = make op.Sys (p ∷ q ∷ a ∷ b ∷ [])
+
+  abbrev pub empty : tree
+  empty = make op.Empty []
+
+  -- `comp i.A p i.b a`
+  abbrev pub comp : tree → tree → tree → tree → tree
+  comp A p b a = make op.Comp (A ∷ p ∷ b ∷ a ∷ [])
+
+  abbrev pub glue_type : tree → tree → tree → tree → tree
+  glue_type A p T w = make op.GlueType (A ∷ p ∷ T ∷ w ∷ [])
+
+  abbrev pub glue : tree → tree → tree → tree
+  glue p c a = make op.Glue (p ∷ c ∷ a ∷ [])
+
+  abbrev pub unglue : tree → tree → tree → tree → tree
+  unglue p T w b = make op.Unglue (p ∷ T ∷ w ∷ b ∷ [])
+
   -- `(x : nat) -> P{x} -> P{suc x}`, the type of a step of a recursion; under x, `P{x}` is P
   abbrev pub motive_step : tree → tree
   motive_step P = pi nat (pi P (apply P (push (shift_by 2) (suc (var 1)))))
+
+  -- The trees of the Kan operations, as in the paper by Cohen et al., sections 4, 5 and 6. A line
+  -- `i.A` is a tree A over one more name, i; a line stands below for that name and over it. `A{r}`
+  -- is `at A r`.
+
+  -- `j.A{r}`: the line along a formula r over j
+  abbrev pub along : tree → tree → tree
+  along A r = apply A (push up r)
+
+  -- a line, or a tree over one more variable, weakened by an entry that stands before its own
+  abbrev pub aside : subst
+  aside = push (shift_by 2) (var 0)
+
+  abbrev pub beside : tree → tree
+  beside A = apply A aside
+
+  -- `A++`
+  abbrev pub twice : tree → tree
+  twice A = weakened (weakened A)
+
+  -- a side `p -> t` of a system
+  abbrev pub side : tree → tree → Side tree
+  side p t = record { face = p; body = t }
+
+  -- the face on which some side stands
+  abbrev pub cover : List (Side tree) → tree
+  cover [] = f0
+  cover (s ∷ S) = join s.face (cover S)
+
+  -- the system of the sides
+  abbrev pub body : List (Side tree) → tree
+  body [] = empty
+  body (s ∷ S) = sys s.face (cover S) s.body (body S)
+
+  -- faces weakened to the line over which the bodies stand
+  abbrev pub over_name : List (Side tree) → List (Side tree)
+  over_name [] = []
+  over_name (s ∷ S) = side (weakened s.face) s.body ∷ over_name S
+
+  -- `comp(i.A, [p -> t, ..], a)`: each p over the context, each t a line
+  abbrev pub comp_of : tree → List (Side tree) → tree → tree
+  comp_of A S a = comp A (cover S) (body (over_name S)) a
+
+  -- `comp(j.A{min r j}, [p -> b{min r j}, (r=0) -> a], a)`, from a at r = 0 to the composition at
+  -- r = 1
+  abbrev pub fill : tree → tree → tree → tree → tree → tree
+  fill A p b a r =
+      let m = min (weakened r) (var 0) in
+      comp_of (along A m) (side p (along b m) ∷ side (eq0 r) (weakened a) ∷ []) a
+
+  -- filling with sides
+  abbrev pub fill_of : tree → List (Side tree) → tree → tree → tree
+  fill_of A S a r = fill A (cover S) (body (over_name S)) a r
+
+  -- `Fill(i.A{neg i}, f0, i.empty, y, neg r)`, which ends in y at r = 1
+  abbrev pub back : tree → tree → tree → tree
+  back A y r = fill (along A (neg (var 0))) f0 empty y (neg r)
+
+  -- `(x : A) * ((y : A) -> x = y)`, where the equality is a path
+  abbrev pub is_contr : tree → tree
+  is_contr A = sig A (pi (weakened A) (pathp (weakened (twice A)) (var 1) (var 0)))
+
+  -- `(x : T) * (y = f x)`
+  abbrev pub fiber : tree → tree → tree → tree → tree
+  fiber T A f y = sig T (pathp (twice A) (weakened y) (app (weakened f) (var 0)))
+
+  -- `(y : A) -> isContr (fiber T A f y)`
+  abbrev pub is_equiv : tree → tree → tree → tree
+  is_equiv T A f = pi A (is_contr (fiber (weakened T) (weakened A) (weakened f) (var 0)))
+
+  -- `(f : T -> A) * isEquiv T A f`
+  abbrev pub equiv : tree → tree → tree
+  equiv T A = sig (pi T (weakened A)) (is_equiv (weakened T) (weakened A) (var 0))
+
+  -- `comp(i.A, p, i. papp (app (snd c) b) i, fst c)`: c contracts A, and the tree is b on p
+  abbrev pub contr : tree → tree → tree → tree → tree
+  contr A c p b = comp (weakened A) p (papp (weakened (app (snd c) b)) (var 0)) (fst c)
+
+  -- an element of the fiber of the equivalence w at a, which is z on p
+  abbrev pub ext : tree → tree → tree → tree → tree → tree → tree
+  ext T A w p z a = contr (fiber T A (fst w) a) (app (snd w) a) p z
+
+  -- `plam j. comp(i.A, join p (j=1), i. app f v, app f{0} t0)` with `v = Fill(i.T, p, i.t, t0, i)`:
+  -- a path from the composition of the images to the image of the composition
+  abbrev pub pres : tree → tree → tree → tree → tree → tree → tree
+  pres T A f p t t0 =
+      let v = fill (beside T) (weakened p) (beside t) (weakened t0) (var 0) in
+      plam
+      (comp
+      (beside A)
+      (join (weakened p) (eq1 (var 0)))
+      (beside (app f v))
+      (weakened (app (at f i0) t0)))
+
+  -- The right sides of the rules of composition: `i.A`, `i.b` and, where they occur, `i.q`, `i.T`,
+  -- `i.w`, `i.u` and `i.v` are lines.
+
+  -- `lam A{1} (y. comp(i.B{v}, p, i. app b v, app a v0))` with `v = Back(i.A, y, i)` and
+  -- `v0 = Back(i.A, y, i0)`
+  abbrev pub comp_pi : tree → tree → tree → tree → tree → tree
+  comp_pi A B p b a =
+      let v = back (beside (beside A)) (var 1) (var 0) in
+      let v0 = back (beside A) (var 0) i0 in
+      lam
+      (at A i1)
+      (comp
+      (apply B (push aside v))
+      (weakened p)
+      (app (beside b) v)
+      (app (weakened a) v0))
+
+  -- `pair (comp(i.A, p, i.fst b, fst a)) (comp(i.B{x}, p, i.snd b, snd a))` with
+  -- `x = Fill(i.A, p, i.fst b, fst a, i)`
+  abbrev pub comp_sig : tree → tree → tree → tree → tree → tree
+  comp_sig A B p b a =
+      let x = fill (beside A) (weakened p) (beside (fst b)) (weakened (fst a)) (var 0) in
+      pair (comp A p (fst b) (fst a)) (comp (at B x) p (snd b) (snd a))
+
+  -- `plam j. comp(i.A, [p -> papp b j, (j=0) -> u, (j=1) -> v], papp a j)`, A over i, then j
+  abbrev pub comp_path : tree → tree → tree → tree → tree → tree → tree
+  comp_path A u v p b a =
+      plam
+      (comp_of
+      (apply A (push aside (var 1)))
+      (side (weakened p) (papp (beside b) (var 1))
+      ∷ side (eq0 (var 0)) (beside u)
+      ∷ side (eq1 (var 0)) (beside v)
+      ∷ [])
+      (papp (weakened a) (var 0)))
+
+  -- Composition at a Glue type, over lines A, q, T, w and b, from a. It is glued from
+  -- `k = comp(i.A, p, i.g, g0)` with `g = unglue q T w b` over i and
+  -- `g0 = unglue q{0} T{0} w{0} a`;
+  abbrev pub glue_base : tree → tree → tree → tree → tree → tree → tree → tree
+  glue_base A q T w p b a =
+      let g0 = unglue (at q i0) (at T i0) (at w i0) a in
+      comp A p (unglue q T w b) g0
+
+  -- the sides `D -> pair t' o` and `p -> pair b{1} (plam _.k)` with `D = all i.q`,
+  -- `t' = comp(i.T, p, i.b, a)` and `o = Pres(i.T, i.A, i.fst w, p, i.b, a)`;
+  abbrev pub glue_sides : tree → tree → tree → tree → tree → tree → tree → tree → List (Side tree)
+  glue_sides A q T w p b a k =
+      side (all q) (pair (comp T p b a) (pres T A (fst w) p b a))
+      ∷ side p (pair (at b i1) (plam (weakened k)))
+      ∷ []
+
+  -- the element `E = Ext(T{1}, A{1}, w{1}, Cover(S), Body(S), k)` with these sides S;
+  abbrev pub glue_fiber : tree → tree → tree → tree → tree → tree → tree → tree → tree
+  glue_fiber A q T w p b a k =
+      let S = glue_sides A q T w p b a k in
+      ext (at T i1) (at A i1) (at w i1) (cover S) (body S) k
+
+  -- and it is `glue q{1} (fst E) h` with
+  -- `h = comp(j.A{1}, [q{1} -> papp (snd E) j, p -> g{1}], k)`.
+  abbrev pub glue_end : tree → tree → tree → tree → tree → tree → tree → tree → tree
+  glue_end A q T w p b k E =
+      let g = unglue q T w b in
+      glue
+      (at q i1)
+      (fst E)
+      (comp_of
+      (weakened (at A i1))
+      (side (at q i1) (papp (weakened (snd E)) (var 0)) ∷ side p (weakened (at g i1)) ∷ [])
+      k)
+
+  abbrev pub glue_from : tree → tree → tree → tree → tree → tree → tree → tree → tree
+  glue_from A q T w p b a k = glue_end A q T w p b k (glue_fiber A q T w p b a k)
+
+  abbrev pub comp_glue : tree → tree → tree → tree → tree → tree → tree → tree
+  comp_glue A q T w p b a = glue_from A q T w p b a (glue_base A q T w p b a)
+
+  -- The equivalence `Eqv(i.E)` from `E{0}` to `E{1}`. In it `g(y)` is `v(y,i0)`.
+
+  -- `Fill(i.E, f0, i.empty, x, r)`
+  abbrev pub eqv_u : tree → tree → tree → tree
+  eqv_u E x r = fill E f0 empty x r
+
+  -- `Back(i.E, y, r)`
+  abbrev pub eqv_v : tree → tree → tree → tree
+  eqv_v E y r = back E y r
+
+  -- `m(y,j,r) = Fill(i.E, [(j=0) -> v(y,i), (j=1) -> u(g(y),i)], g(y), r)`, for `g = g(y)`
+  abbrev pub eqv_m : tree → tree → tree → tree → tree → tree
+  eqv_m E y g j r =
+      fill_of
+      E
+      (side (eq0 j) (eqv_v (beside E) (weakened y) (var 0))
+      ∷ side (eq1 j) (eqv_u (beside E) (weakened g) (var 0))
+      ∷ [])
+      g
+      r
+
+  -- `n(y,x,c,j,r) = Fill(i.E{neg i}, [(j=0) -> v(y,neg i), (j=1) -> u(x,neg i)], papp c j, neg r)`
+  abbrev pub eqv_n : tree → tree → tree → tree → tree → tree → tree
+  eqv_n E y x c j r =
+      fill_of
+      (along E (neg (var 0)))
+      (side (eq0 j) (eqv_v (beside E) (weakened y) (neg (var 0)))
+      ∷ side (eq1 j) (eqv_u (beside E) (weakened x) (neg (var 0)))
+      ∷ [])
+      (papp c j)
+      (neg r)
+
+  -- `o(k) = n(y, fst z, snd z, k, i0)`
+  abbrev pub eqv_o : tree → tree → tree → tree → tree
+  eqv_o E y z k = eqv_n E y (fst z) (snd z) k i0
+
+  -- the centre at y, `pair g(y) (plam j. m(y,j,i1))`, for `g = g(y)`
+  abbrev pub eqv_centre : tree → tree → tree → tree
+  eqv_centre E y g = pair g (plam (eqv_m (beside E) (weakened y) (weakened g) (var 0) i1))
+
+  -- `comp(i.E, [(k=0) -> m(y,j,i), (k=1) -> n(y,fst z,snd z,j,i), (j=0) -> v(y,i),
+  -- (j=1) -> u(o,i)], o(min j k))`, for `g = g(y)` and `o = o(k)`
+  abbrev pub eqv_square : tree → tree → tree → tree → tree → tree → tree → tree
+  eqv_square E y g z j k o =
+      comp_of
+      E
+      (side (eq0 k) (eqv_m (beside E) (weakened y) (weakened g) (weakened j) (var 0))
+      ∷ side (eq1 k)
+      (eqv_n (beside E) (weakened y) (weakened (fst z)) (weakened (snd z)) (weakened j) (var 0))
+      ∷ side (eq0 j) (eqv_v (beside E) (weakened y) (var 0))
+      ∷ side (eq1 j) (eqv_u (beside E) (weakened o) (var 0))
+      ∷ [])
+      (eqv_o E y z (min j k))
+
+  -- the contraction at z and k, `pair o(k) (plam j. ..)` with that square, for `o = o(k)`
+  abbrev pub eqv_contraction : tree → tree → tree → tree → tree → tree → tree
+  eqv_contraction E y g z k o =
+      pair
+      o
+      (plam
+      (eqv_square
+      (beside E)
+      (weakened y)
+      (weakened g)
+      (weakened z)
+      (var 0)
+      (weakened k)
+      (weakened o)))
+
+  -- the contractions at z, `plam k. contraction`
+  abbrev pub eqv_path : tree → tree → tree → tree → tree
+  eqv_path E y g z =
+      let E' = beside E in
+      let y' = weakened y in
+      let z' = weakened z in
+      plam (eqv_contraction E' y' (weakened g) z' (var 0) (eqv_o E' y' z' (var 0)))
+
+  -- `pair centre (lam (fiber E{0} E{1} f y) (z. plam k. contraction))`, for `g = g(y)`
+  abbrev pub eqv_fiber : tree → tree → tree → tree → tree
+  eqv_fiber E f y g =
+      pair
+      (eqv_centre E y g)
+      (lam
+      (fiber (at E i0) (at E i1) f y)
+      (eqv_path (beside E) (weakened y) (weakened g) (var 0)))
+
+  -- `pair f (lam E{1} (y. ..))` with these fibers, for the map f
+  abbrev pub eqv_from : tree → tree → tree
+  eqv_from E f =
+      pair
+      f
+      (lam (at E i1)
+      (eqv_fiber (beside E) (weakened f) (var 0) (eqv_v (beside E) (var 0) i0)))
+
+  -- with `f = lam E{0} (x. comp(i.E, f0, i.empty, x))`
+  abbrev pub eqv : tree → tree
+  eqv E = eqv_from E (lam (at E i0) (comp (beside E) f0 empty (var 0)))
+
+  -- `Glue a p b{1} (Eqv(i.b{neg i}))`
+  abbrev pub comp_u : tree → tree → tree → tree
+  comp_u p b a = glue_type a p (at b i1) (eqv (along b (neg (var 0))))
 
   -- Written by tools/write_rules.py from here on.
 
@@ -629,6 +955,333 @@ module _ (L : Language) where
     gives = TmEq G (natrec P a b (suc n)) (app (app b n) (natrec P a b n)) (at P (suc n));
   }
 
+  -- The rules of systems.
+
+  -- the premises of sys.ty
+  abbrev pub sys_ty_wants : context → tree → tree → tree → tree → List (JudgementOf L)
+  sys_ty_wants G p q A B =
+      Ty (with_face G p) A ∷ Ty (with_face G q) B ∷ TyEq (with_face (with_face G p) q) A B ∷ []
+
+  -- the premises of sys.tm
+  abbrev pub sys_tm_wants : context → tree → tree → tree → tree → tree → List (JudgementOf L)
+  sys_tm_wants G p q a b A =
+      Ty G A ∷ Tm (with_face G p) a A ∷ Tm (with_face G q) b A ∷ TmEq (with_face (with_face G p) q) a b A ∷ []
+
+  abbrev pub system_rule : (name : SystemRule) → Over (kinds_of (Systems name))
+  -- sys.ty | G p q A B | G.p >> A; G.q >> B; G.p.q >> A = B
+  --   if IsFace(G, p), IsFace(G, q), Holds(G, join p q) | G >> sys p q A B
+  system_rule SysTy = λ G p q A B. record {
+    wants = sys_ty_wants G p q A B;
+    sides = IsFace G p ∷ IsFace G q ∷ Holds G (join p q) ∷ [];
+    gives = Ty G (sys p q A B);
+  }
+  -- sys.tm | G p q a b A | G >> A; G.p >> a : A; G.q >> b : A; G.p.q >> a = b : A
+  --   if IsFace(G, p), IsFace(G, q), Holds(G, join p q) | G >> sys p q a b : A
+  system_rule SysTm = λ G p q a b A. record {
+    wants = sys_tm_wants G p q a b A;
+    sides = IsFace G p ∷ IsFace G q ∷ Holds G (join p q) ∷ [];
+    gives = Tm G (sys p q a b) A;
+  }
+  -- sys.tyleft | G p q A B | premises of sys.ty
+  --   if IsFace(G, p), IsFace(G, q), Holds(G, join p q) | G.p >> sys p q A B = A
+  system_rule SysTyLeft = λ G p q A B. record {
+    wants = sys_ty_wants G p q A B;
+    sides = IsFace G p ∷ IsFace G q ∷ Holds G (join p q) ∷ [];
+    gives = TyEq (with_face G p) (sys p q A B) A;
+  }
+  -- sys.tyright | G p q A B | premises of sys.ty
+  --   if IsFace(G, p), IsFace(G, q), Holds(G, join p q) | G.q >> sys p q A B = B
+  system_rule SysTyRight = λ G p q A B. record {
+    wants = sys_ty_wants G p q A B;
+    sides = IsFace G p ∷ IsFace G q ∷ Holds G (join p q) ∷ [];
+    gives = TyEq (with_face G q) (sys p q A B) B;
+  }
+  -- sys.left | G p q a b A | premises of sys.tm
+  --   if IsFace(G, p), IsFace(G, q), Holds(G, join p q) | G.p >> sys p q a b = a : A
+  system_rule SysLeft = λ G p q a b A. record {
+    wants = sys_tm_wants G p q a b A;
+    sides = IsFace G p ∷ IsFace G q ∷ Holds G (join p q) ∷ [];
+    gives = TmEq (with_face G p) (sys p q a b) a A;
+  }
+  -- sys.right | G p q a b A | premises of sys.tm
+  --   if IsFace(G, p), IsFace(G, q), Holds(G, join p q) | G.q >> sys p q a b = b : A
+  system_rule SysRight = λ G p q a b A. record {
+    wants = sys_tm_wants G p q a b A;
+    sides = IsFace G p ∷ IsFace G q ∷ Holds G (join p q) ∷ [];
+    gives = TmEq (with_face G q) (sys p q a b) b A;
+  }
+  -- empty.ty | G | ctx G if Holds(G, f0) | G >> empty
+  system_rule EmptyTy = λ G. record {
+    wants = Ctx G ∷ [];
+    sides = Holds G f0 ∷ [];
+    gives = Ty G empty;
+  }
+  -- empty.tm | G A | G >> A if Holds(G, f0) | G >> empty : A
+  system_rule EmptyTm = λ G A. record {
+    wants = Ty G A ∷ [];
+    sides = Holds G f0 ∷ [];
+    gives = Tm G empty A;
+  }
+
+  -- The rules of composition.
+
+  -- the premises of comp
+  abbrev pub comp_wants : context → tree → tree → tree → tree → List (JudgementOf L)
+  comp_wants G A p b a =
+      Ty (with_name G) A ∷ Tm (with_name (with_face G p)) b A ∷ Tm G a (at A i0) ∷ TmEq (with_face G p) a (at b i0) (at A i0) ∷ []
+
+  abbrev pub comp_rule : (name : CompRule) → Over (kinds_of (Composition name))
+  -- comp | G A p b a | G.I >> A; G.p.I >> b : A; G >> a : A{0}; G.p >> a = b{0} : A{0}
+  --   if IsFace(G, p) | G >> comp A p b a : A{1}
+  comp_rule Comp = λ G A p b a. record {
+    wants = comp_wants G A p b a;
+    sides = IsFace G p ∷ [];
+    gives = Tm G (comp A p b a) (at A i1);
+  }
+  -- comp.face | G A p b a | premises of comp if IsFace(G, p) | G.p >> comp A p b a = b{1} : A{1}
+  comp_rule CompFace = λ G A p b a. record {
+    wants = comp_wants G A p b a;
+    sides = IsFace G p ∷ [];
+    gives = TmEq (with_face G p) (comp A p b a) (at b i1) (at A i1);
+  }
+  -- comp.cong | G A B p q b c a k | G.I >> A = B; G.p.I >> b : A; G >> a : A{0};
+  --   G.p >> a = b{0} : A{0}; G.p.I >> b = c : A; G >> a = k : A{0}
+  --   if IsFace(G, p), IsFace(G, q), Holds(G.p, q), Holds(G.q, p)
+  --   | G >> comp A p b a = comp B q c k : A{1}
+  comp_rule CompCong = λ G A B p q b c a k. record {
+    wants =
+        TyEq (with_name G) A B
+        ∷ Tm (with_name (with_face G p)) b A
+        ∷ Tm G a (at A i0)
+        ∷ TmEq (with_face G p) a (at b i0) (at A i0)
+        ∷ TmEq (with_name (with_face G p)) b c A
+        ∷ TmEq G a k (at A i0)
+        ∷ [];
+    sides = IsFace G p ∷ IsFace G q ∷ Holds (with_face G p) q ∷ Holds (with_face G q) p ∷ [];
+    gives = TmEq G (comp A p b a) (comp B q c k) (at A i1);
+  }
+  -- comp.pi | G A B p b a | G.I >> A; G.I.A >> B; G.p.I >> b : pi A B; G >> a : (pi A B){0};
+  --   G.p >> a = b{0} : (pi A B){0} if IsFace(G, p)
+  --   | G >> comp (pi A B) p b a = comp_pi A B p b a : (pi A B){1}
+  comp_rule CompPi = λ G A B p b a. record {
+    wants =
+        Ty (with_name G) A
+        ∷ Ty (with_var (with_name G) A) B
+        ∷ Tm (with_name (with_face G p)) b (pi A B)
+        ∷ Tm G a (at (pi A B) i0)
+        ∷ TmEq (with_face G p) a (at b i0) (at (pi A B) i0)
+        ∷ [];
+    sides = IsFace G p ∷ [];
+    gives = TmEq G (comp (pi A B) p b a) (comp_pi A B p b a) (at (pi A B) i1);
+  }
+  -- comp.sig | G A B p b a | G.I >> A; G.I.A >> B; G.p.I >> b : sig A B; G >> a : (sig A B){0};
+  --   G.p >> a = b{0} : (sig A B){0} if IsFace(G, p)
+  --   | G >> comp (sig A B) p b a = comp_sig A B p b a : (sig A B){1}
+  comp_rule CompSig = λ G A B p b a. record {
+    wants =
+        Ty (with_name G) A
+        ∷ Ty (with_var (with_name G) A) B
+        ∷ Tm (with_name (with_face G p)) b (sig A B)
+        ∷ Tm G a (at (sig A B) i0)
+        ∷ TmEq (with_face G p) a (at b i0) (at (sig A B) i0)
+        ∷ [];
+    sides = IsFace G p ∷ [];
+    gives = TmEq G (comp (sig A B) p b a) (comp_sig A B p b a) (at (sig A B) i1);
+  }
+  -- comp.path | G A u v p b a | G.I.I >> A; G.I >> u : A{0}; G.I >> v : A{1};
+  --   G.p.I >> b : pathp A u v; G >> a : (pathp A u v){0}; G.p >> a = b{0} : (pathp A u v){0}
+  --   if IsFace(G, p)
+  --   | G >> comp (pathp A u v) p b a = comp_path A u v p b a : (pathp A u v){1}
+  comp_rule CompPath = λ G A u v p b a. record {
+    wants =
+        Ty (with_name (with_name G)) A
+        ∷ Tm (with_name G) u (at A i0)
+        ∷ Tm (with_name G) v (at A i1)
+        ∷ Tm (with_name (with_face G p)) b (pathp A u v)
+        ∷ Tm G a (at (pathp A u v) i0)
+        ∷ TmEq (with_face G p) a (at b i0) (at (pathp A u v) i0)
+        ∷ [];
+    sides = IsFace G p ∷ [];
+    gives = TmEq G (comp (pathp A u v) p b a) (comp_path A u v p b a) (at (pathp A u v) i1);
+  }
+  -- comp.zero | G p | ctx G if IsFace(G, p) | G >> comp nat p zero zero = zero : nat
+  comp_rule CompZero = λ G p. record {
+    wants = Ctx G ∷ [];
+    sides = IsFace G p ∷ [];
+    gives = TmEq G (comp nat p zero zero) zero nat;
+  }
+  -- comp.suc | G p n m | G.p.I >> n : nat; G >> m : nat; G.p >> m = n{0} : nat if IsFace(G, p)
+  --   | G >> comp nat p (suc n) (suc m) = suc (comp nat p n m) : nat
+  comp_rule CompSuc = λ G p n m. record {
+    wants =
+        Tm (with_name (with_face G p)) n nat
+        ∷ Tm G m nat
+        ∷ TmEq (with_face G p) m (at n i0) nat
+        ∷ [];
+    sides = IsFace G p ∷ [];
+    gives = TmEq G (comp nat p (suc n) (suc m)) (suc (comp nat p n m)) nat;
+  }
+  -- comp.glue | G A q T w p b a | G.I >> A; G.I.q >> T; G.I.q >> w : equiv T A;
+  --   G.p.I >> b : Glue A q T w; G >> a : (Glue A q T w){0}; G.p >> a = b{0} : (Glue A q T w){0}
+  --   if IsFace(G, p), IsFace(G.I, q)
+  --   | G >> comp (Glue A q T w) p b a = comp_glue A q T w p b a : (Glue A q T w){1}
+  comp_rule CompGlue = λ G A q T w p b a. record {
+    wants =
+        Ty (with_name G) A
+        ∷ Ty (with_face (with_name G) q) T
+        ∷ Tm (with_face (with_name G) q) w (equiv T A)
+        ∷ Tm (with_name (with_face G p)) b (glue_type A q T w)
+        ∷ Tm G a (at (glue_type A q T w) i0)
+        ∷ TmEq (with_face G p) a (at b i0) (at (glue_type A q T w) i0)
+        ∷ [];
+    sides = IsFace G p ∷ IsFace (with_name G) q ∷ [];
+    gives = TmEq G (comp (glue_type A q T w) p b a) (comp_glue A q T w p b a) (at (glue_type A q T w) i1);
+  }
+  -- comp.u | G p b a | G.p.I >> b : U; G >> a : U; G.p >> a = b{0} : U if IsFace(G, p)
+  --   | G >> comp U p b a = comp_u p b a : U
+  comp_rule CompU = λ G p b a. record {
+    wants =
+        Tm (with_name (with_face G p)) b universe
+        ∷ Tm G a universe
+        ∷ TmEq (with_face G p) a (at b i0) universe
+        ∷ [];
+    sides = IsFace G p ∷ [];
+    gives = TmEq G (comp universe p b a) (comp_u p b a) universe;
+  }
+
+  -- The rules of Glue.
+
+  -- the premises of glue.ty
+  abbrev pub glue_ty_wants : context → tree → tree → tree → tree → List (JudgementOf L)
+  glue_ty_wants G A p T w = Ty G A ∷ Ty (with_face G p) T ∷ Tm (with_face G p) w (equiv T A) ∷ []
+
+  -- the premises of glue.u
+  abbrev pub glue_u_wants : context → tree → tree → tree → tree → List (JudgementOf L)
+  glue_u_wants G A p T w =
+      Tm G A universe ∷ Tm (with_face G p) T universe ∷ Tm (with_face G p) w (equiv T A) ∷ []
+
+  -- the premises of glue
+  abbrev pub glue_wants : context → tree → tree → tree → tree → tree → tree → List (JudgementOf L)
+  glue_wants G A p T w c a =
+      Ty G A ∷ Ty (with_face G p) T ∷ Tm (with_face G p) w (equiv T A) ∷ Tm (with_face G p) c T ∷ Tm G a A ∷ TmEq (with_face G p) (app (fst w) c) a A ∷ []
+
+  -- the premises of unglue
+  abbrev pub unglue_wants : context → tree → tree → tree → tree → tree → List (JudgementOf L)
+  unglue_wants G A p T w b =
+      Ty G A ∷ Ty (with_face G p) T ∷ Tm (with_face G p) w (equiv T A) ∷ Tm G b (glue_type A p T w) ∷ []
+
+  abbrev pub glue_rule : (name : GlueRule) → Over (kinds_of (Gluing name))
+  -- glue.ty | G A p T w | G >> A; G.p >> T; G.p >> w : equiv T A if IsFace(G, p) | G >> Glue A p T w
+  glue_rule GlueTy = λ G A p T w. record {
+    wants = glue_ty_wants G A p T w;
+    sides = IsFace G p ∷ [];
+    gives = Ty G (glue_type A p T w);
+  }
+  -- glue.u | G A p T w | G >> A : U; G.p >> T : U; G.p >> w : equiv T A if IsFace(G, p)
+  --   | G >> Glue A p T w : U
+  glue_rule GlueU = λ G A p T w. record {
+    wants = glue_u_wants G A p T w;
+    sides = IsFace G p ∷ [];
+    gives = Tm G (glue_type A p T w) universe;
+  }
+  -- glue.tyface | G A p T w | premises of glue.ty if IsFace(G, p) | G.p >> Glue A p T w = T
+  glue_rule GlueTyFace = λ G A p T w. record {
+    wants = glue_ty_wants G A p T w;
+    sides = IsFace G p ∷ [];
+    gives = TyEq (with_face G p) (glue_type A p T w) T;
+  }
+  -- glue.uface | G A p T w | premises of glue.u if IsFace(G, p) | G.p >> Glue A p T w = T : U
+  glue_rule GlueUFace = λ G A p T w. record {
+    wants = glue_u_wants G A p T w;
+    sides = IsFace G p ∷ [];
+    gives = TmEq (with_face G p) (glue_type A p T w) T universe;
+  }
+  -- glue.tycong | G A B p q T V w z | G >> A = B; G.p >> T = V; G.p >> w = z : equiv T A
+  --   if IsFace(G, p), IsFace(G, q), Holds(G.p, q), Holds(G.q, p) | G >> Glue A p T w = Glue B q V z
+  glue_rule GlueTyCong = λ G A B p q T V w z. record {
+    wants = TyEq G A B ∷ TyEq (with_face G p) T V ∷ TmEq (with_face G p) w z (equiv T A) ∷ [];
+    sides = IsFace G p ∷ IsFace G q ∷ Holds (with_face G p) q ∷ Holds (with_face G q) p ∷ [];
+    gives = TyEq G (glue_type A p T w) (glue_type B q V z);
+  }
+  -- glue.ucong | G A B p q T V w z | G >> A = B : U; G.p >> T = V : U; G.p >> w = z : equiv T A
+  --   if IsFace(G, p), IsFace(G, q), Holds(G.p, q), Holds(G.q, p)
+  --   | G >> Glue A p T w = Glue B q V z : U
+  glue_rule GlueUCong = λ G A B p q T V w z. record {
+    wants =
+        TmEq G A B universe
+        ∷ TmEq (with_face G p) T V universe
+        ∷ TmEq (with_face G p) w z (equiv T A)
+        ∷ [];
+    sides = IsFace G p ∷ IsFace G q ∷ Holds (with_face G p) q ∷ Holds (with_face G q) p ∷ [];
+    gives = TmEq G (glue_type A p T w) (glue_type B q V z) universe;
+  }
+  -- glue | G A p T w c a | G >> A; G.p >> T; G.p >> w : equiv T A; G.p >> c : T; G >> a : A;
+  --   G.p >> app (fst w) c = a : A if IsFace(G, p) | G >> glue p c a : Glue A p T w
+  glue_rule Glue = λ G A p T w c a. record {
+    wants = glue_wants G A p T w c a;
+    sides = IsFace G p ∷ [];
+    gives = Tm G (glue p c a) (glue_type A p T w);
+  }
+  -- glue.face | G A p T w c a | premises of glue if IsFace(G, p) | G.p >> glue p c a = c : T
+  glue_rule GlueFace = λ G A p T w c a. record {
+    wants = glue_wants G A p T w c a;
+    sides = IsFace G p ∷ [];
+    gives = TmEq (with_face G p) (glue p c a) c T;
+  }
+  -- unglue | G A p T w b | G >> A; G.p >> T; G.p >> w : equiv T A; G >> b : Glue A p T w
+  --   if IsFace(G, p) | G >> unglue p T w b : A
+  glue_rule Unglue = λ G A p T w b. record {
+    wants = unglue_wants G A p T w b;
+    sides = IsFace G p ∷ [];
+    gives = Tm G (unglue p T w b) A;
+  }
+  -- unglue.face | G A p T w b | premises of unglue if IsFace(G, p)
+  --   | G.p >> unglue p T w b = app (fst w) b : A
+  glue_rule UnglueFace = λ G A p T w b. record {
+    wants = unglue_wants G A p T w b;
+    sides = IsFace G p ∷ [];
+    gives = TmEq (with_face G p) (unglue p T w b) (app (fst w) b) A;
+  }
+  -- unglue.cong | G A p T w q V z b c | G >> A; G.p >> T; G.p >> w : equiv T A; G.p >> T = V;
+  --   G.p >> w = z : equiv T A; G >> b = c : Glue A p T w
+  --   if IsFace(G, p), IsFace(G, q), Holds(G.p, q), Holds(G.q, p)
+  --   | G >> unglue p T w b = unglue q V z c : A
+  glue_rule UnglueCong = λ G A p T w q V z b c. record {
+    wants =
+        Ty G A
+        ∷ Ty (with_face G p) T
+        ∷ Tm (with_face G p) w (equiv T A)
+        ∷ TyEq (with_face G p) T V
+        ∷ TmEq (with_face G p) w z (equiv T A)
+        ∷ TmEq G b c (glue_type A p T w)
+        ∷ [];
+    sides = IsFace G p ∷ IsFace G q ∷ Holds (with_face G p) q ∷ Holds (with_face G q) p ∷ [];
+    gives = TmEq G (unglue p T w b) (unglue q V z c) A;
+  }
+  -- glue.beta | G A p T w c a | premises of glue if IsFace(G, p)
+  --   | G >> unglue p T w (glue p c a) = a : A
+  glue_rule GlueBeta = λ G A p T w c a. record {
+    wants = glue_wants G A p T w c a;
+    sides = IsFace G p ∷ [];
+    gives = TmEq G (unglue p T w (glue p c a)) a A;
+  }
+  -- glue.eta | G A p T w b c | G >> A; G.p >> T; G.p >> w : equiv T A; G >> b : Glue A p T w;
+  --   G >> c : Glue A p T w; G >> unglue p T w b = unglue p T w c : A; G.p >> b = c : T
+  --   if IsFace(G, p) | G >> b = c : Glue A p T w
+  glue_rule GlueEta = λ G A p T w b c. record {
+    wants =
+        Ty G A
+        ∷ Ty (with_face G p) T
+        ∷ Tm (with_face G p) w (equiv T A)
+        ∷ Tm G b (glue_type A p T w)
+        ∷ Tm G c (glue_type A p T w)
+        ∷ TmEq G (unglue p T w b) (unglue p T w c) A
+        ∷ TmEq (with_face G p) b c T
+        ∷ [];
+    sides = IsFace G p ∷ [];
+    gives = TmEq G b c (glue_type A p T w);
+  }
+
   abbrev pub rule : (name : RuleName) → Over (kinds_of name)
   rule (Contexts name) = context_rule name
   rule (Instances name) = instance_rule name
@@ -638,3 +1291,6 @@ module _ (L : Language) where
   rule (Sigma name) = sigma_rule name
   rule (Paths name) = path_rule name
   rule (Naturals name) = nat_rule name
+  rule (Systems name) = system_rule name
+  rule (Composition name) = comp_rule name
+  rule (Gluing name) = glue_rule name

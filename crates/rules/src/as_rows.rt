@@ -9,7 +9,7 @@ ghost use Rattle.trees.specs.Claimed.{claimed};
 ghost use Rattle.rules.specs.Run.{rows_of_all};
 ghost use Rattle.rules.specs.Shifts.{ShiftsFit};
 ghost use Rattle.rules.specs.Schemas.{judgement_of, condition_of, places_of, test_places};
-ghost use Rattle.rules.specs.Schemas.{fits, has_then, most_rows};
+ghost use Rattle.rules.specs.Schemas.{fits, has_then, most_rows, most_wanted};
 ghost use Rattle.rules.specs.Claims.{asked, rule_over, premise_at, side_at};
 ghost use Rattle.rules.specs.Claims.{conclusion_of, sides_in};
 
@@ -116,7 +116,7 @@ pub(crate) fn test_of<M: Maker>(
 }
 
 /// The premise that a rule wants at a place, counted from 0. The parts are live rows of the
-/// rule's kinds. It adds fewer than `most_rows` rows.
+/// rule's kinds. It adds fewer than `most_wanted` rows.
 pub fn wanted<M: Maker>(
     maker: &mut M,
     rule: RuleName,
@@ -125,8 +125,8 @@ pub fn wanted<M: Maker>(
 ) -> Result<Claim, AllocError>
     requires parts { IsSome (rule_over rule (meanings (M.means maker.old) parts.now)) }
     requires within { at < premises_of rule }
-    ensures covered { most_rows rule ≤ M.spare maker.old + 1 → IsOk result }
-    ensures spends { M.spare maker.old < M.spare maker.new + most_rows rule }
+    ensures covered { most_wanted ≤ M.spare maker.old + 1 → IsOk result }
+    ensures spends { M.spare maker.old < M.spare maker.new + most_wanted }
     ensures kept { Kept (M.means maker.old) (M.means maker.new) }
     ensures claim { let r = rule_over rule (meanings (M.means maker.old) parts.now) in
         IfOk result (λ claim. claimed (M.means maker.new) claim ≡ premise_at at r) }
@@ -135,7 +135,7 @@ pub fn wanted<M: Maker>(
 }
 
 /// The test of a rule's side condition at a place, counted from 0, and none past the last. The
-/// parts are live rows of the rule's kinds. It adds fewer than `most_rows` rows.
+/// parts are live rows of the rule's kinds. It adds fewer than `most_wanted` rows.
 pub fn side<M: Maker>(
     maker: &mut M,
     rule: RuleName,
@@ -143,8 +143,8 @@ pub fn side<M: Maker>(
     at: u8,
 ) -> Result<Option<SideTest>, AllocError>
     requires { IsSome (rule_over rule (meanings (M.means maker.old) parts.now)) }
-    ensures covered { most_rows rule ≤ M.spare maker.old + 1 → IsOk result }
-    ensures spends { M.spare maker.old < M.spare maker.new + most_rows rule }
+    ensures covered { most_wanted ≤ M.spare maker.old + 1 → IsOk result }
+    ensures spends { M.spare maker.old < M.spare maker.new + most_wanted }
     ensures kept { Kept (M.means maker.old) (M.means maker.new) }
     ensures some { let r = rule_over rule (meanings (M.means maker.old) parts.now) in
         IfOk result (λ found. IfSome found (λ test.

@@ -1,5 +1,6 @@
 //! The instructions of which the programs of rules are made.
 
+use crate::derived::Derived;
 use theory::Op;
 
 /// An instruction makes a tree, a substitution or a context of those that the instructions after it
@@ -28,4 +29,6 @@ pub enum Instruction {
     CtxName,
     /// `G.p`: a context, then a face.
     CtxFace,
+    /// The derived tree, of the trees that it is made of.
+    Call(Derived),
 }

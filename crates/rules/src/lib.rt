@@ -14,6 +14,7 @@
 #![tactic(auto)]
 
 mod as_rows;
+mod derived;
 mod instruction;
 mod laws;
 mod machine;

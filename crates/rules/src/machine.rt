@@ -4,19 +4,22 @@ ghost use Rattle.std.specs.Prelude.{◌≡◌, ◌≤◌, ◌<◌, ◌+◌, ◌�
 ghost use Rattle.std.specs.Prelude.{IsOk, IsSome, IsTrue, true};
 ghost use Rattle.std.specs.List.{list_all, list_any};
 ghost use Rattle.trees.specs.Things.{Kept, meanings};
-ghost use Rattle.rules.specs.Run.{stepped, rows_for, lists_of, thing_of};
+ghost use Rattle.rules.specs.Run.{stepped, rows_for, takes, lists_of, thing_of};
 ghost use Rattle.rules.specs.Run.{rows_in, things_of, rows_of_all};
 ghost use Rattle.rules.specs.Schemas.{fits, has_then};
 ghost use Rattle.rules.specs.Shifts.{ShiftsFit, ThenFits};
 
+use crate::derived::arity;
 use crate::instruction::Instruction;
 use crate::program::Place;
 use crate::stack::Stack;
+use crate::table::derivation;
 use rows::Maker;
 use std::alloc::AllocError;
 use theory::kid_count;
 
 /// Takes what an instruction takes off the stack, and answers the row that it makes.
+#[cycle(run)]
 fn follow<M: Maker>(
     maker: &mut M,
     parts: &[u64],
@@ -32,7 +35,7 @@ fn follow<M: Maker>(
     ensures steps { let f = M.means maker.old in
         IfOk result (λ row. meanings (M.means maker.new) (row ∷ stack.new) ≡
         stepped instruction (meanings f parts.now) (meanings f stack.old)) }
-    ensures room { length stack.new ≤ length stack.old }
+    ensures room { IfOk result (λ _. length stack.new + takes instruction ≡ length stack.old) }
 {
     match instruction {
         Instruction::Part(k) => Ok(parts[k as usize]),
@@ -69,10 +72,17 @@ fn follow<M: Maker>(
             let (ctx, face) = stack.pop_two();
             Ok(maker.ctx_face(ctx, face)?)
         }
+        Instruction::Call(derived) => {
+            let count = arity(derived);
+            let row = row_of(maker, stack.first(count), derivation(derived))?;
+            stack.remove(count);
+            Ok(row)
+        }
     }
 }
 
 /// The row of what the instructions of a place make of the parts.
+#[cycle(run)]
 fn row_of<M: Maker>(maker: &mut M, parts: &[u64], place: Place) -> Result<u64, AllocError>
     requires fits { fits place.now ≡ true }
     requires live { IsSome (meanings (M.means maker.old) parts.now) }

@@ -13,8 +13,14 @@ use Rattle.theory.specs.declared.rule.PathRule.{PathRule}
 use Rattle.theory.specs.declared.rule.PathRule.TheVariants.{PathTy}
 use Rattle.theory.specs.declared.rule.NatRule.{NatRule}
 use Rattle.theory.specs.declared.rule.NatRule.TheVariants.{NatU}
-use Rattle.theory.specs.declared.rule.RuleName.TheVariants.{Equality, Universe, Pi, Sigma, Paths, Naturals}
-use Rattle.stability.specs.Depths.{equality_depths, universe_depths, pi_depths, sigma_depths, path_depths, nat_depths}
+use Rattle.theory.specs.declared.rule.SystemRule.{SystemRule}
+use Rattle.theory.specs.declared.rule.SystemRule.TheVariants.{SysTy}
+use Rattle.theory.specs.declared.rule.CompRule.{CompRule}
+use Rattle.theory.specs.declared.rule.CompRule.TheVariants.{Comp}
+use Rattle.theory.specs.declared.rule.GlueRule.{GlueRule}
+use Rattle.theory.specs.declared.rule.GlueRule.TheVariants.{GlueTy}
+use Rattle.theory.specs.declared.rule.RuleName.TheVariants.{Equality, Universe, Pi, Sigma, Paths, Naturals, Systems, Composition, Gluing}
+use Rattle.stability.specs.Depths.{equality_depths, universe_depths, pi_depths, sigma_depths, path_depths, nat_depths, system_depths, comp_depths, glue_depths}
 use Rattle.stability.proofs.Tested.{is_stable}
 
 pub equality : (name : EqualityRule) → is_stable (Equality name) (equality_depths name) ≡ true
@@ -40,3 +46,15 @@ paths _ = refl
 pub naturals : (name : NatRule) → is_stable (Naturals name) (nat_depths name) ≡ true
 naturals NatU = refl
 naturals _ = refl
+
+pub systems : (name : SystemRule) → is_stable (Systems name) (system_depths name) ≡ true
+systems SysTy = refl
+systems _ = refl
+
+pub composition : (name : CompRule) → is_stable (Composition name) (comp_depths name) ≡ true
+composition Comp = refl
+composition _ = refl
+
+pub gluing : (name : GlueRule) → is_stable (Gluing name) (glue_depths name) ≡ true
+gluing GlueTy = refl
+gluing _ = refl

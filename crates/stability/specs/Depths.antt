@@ -4,7 +4,8 @@ use Rattle.std.specs.Prelude.{ℕ, List, [], ◌∷◌}
 use Rattle.theory.specs.declared.rule.EqualityRule.{EqualityRule}
 use Rattle.theory.specs.declared.rule.EqualityRule.TheVariants.{TyEqRefl, TyEqSym, TyEqTrans}
 use Rattle.theory.specs.declared.rule.EqualityRule.TheVariants.{TmEqRefl, TmEqSym, TmEqTrans}
-use Rattle.theory.specs.declared.rule.EqualityRule.TheVariants.{TmConv, TmEqConv}
+use Rattle.theory.specs.declared.rule.EqualityRule.TheVariants.{TmConv, TmEqConv, TyEqCover}
+use Rattle.theory.specs.declared.rule.EqualityRule.TheVariants.{TmEqCover, TyEqAbsurd, TmEqAbsurd}
 use Rattle.theory.specs.declared.rule.UniverseRule.{UniverseRule}
 use Rattle.theory.specs.declared.rule.UniverseRule.TheVariants.{TyUniv, TyU, TyEqU}
 use Rattle.theory.specs.declared.rule.PiRule.{PiRule}
@@ -16,10 +17,25 @@ use Rattle.theory.specs.declared.rule.SigmaRule.TheVariants.{Fst, Snd, FstCong, 
 use Rattle.theory.specs.declared.rule.SigmaRule.TheVariants.{SigBeta2, SigEta}
 use Rattle.theory.specs.declared.rule.PathRule.{PathRule}
 use Rattle.theory.specs.declared.rule.PathRule.TheVariants.{PathTy, PathU, PathTyCong, PathUCong}
-use Rattle.theory.specs.declared.rule.PathRule.TheVariants.{PLam, PathLeft, PathRight, PathEta}
+use Rattle.theory.specs.declared.rule.PathRule.TheVariants.{PLam, PApp, PAppCong, PathLeft}
+use Rattle.theory.specs.declared.rule.PathRule.TheVariants.{PathRight, PathBeta, PathEta}
 use Rattle.theory.specs.declared.rule.NatRule.{NatRule}
 use Rattle.theory.specs.declared.rule.NatRule.TheVariants.{NatU, Zero, Suc, SucCong, NatRec}
 use Rattle.theory.specs.declared.rule.NatRule.TheVariants.{NatRecCong, NatRecZero, NatRecSuc}
+use Rattle.theory.specs.declared.rule.SystemRule.{SystemRule}
+use Rattle.theory.specs.declared.rule.SystemRule.TheVariants.{SysTy, SysTm, SysTyLeft, SysTyRight}
+use Rattle.theory.specs.declared.rule.SystemRule.TheVariants.{SysLeft, SysRight, EmptyTy, EmptyTm}
+use Rattle.theory.specs.declared.rule.CompRule.{CompRule}
+use Rattle.theory.specs.declared.rule.CompRule.TheVariants.{Comp, CompFace, CompCong, CompPi}
+use Rattle.theory.specs.declared.rule.CompRule.TheVariants.{CompSig, CompPath, CompZero, CompSuc}
+use Rattle.theory.specs.declared.rule.CompRule.TheVariants.{CompGlue, CompU}
+use Rattle.theory.specs.declared.rule.GlueRule.{GlueRule}
+use Rattle.theory.specs.declared.rule.GlueRule.TheVariants.{GlueTy, GlueU, GlueTyFace, GlueUFace}
+use Rattle.theory.specs.declared.rule.GlueRule.TheVariants.{GlueTyCong, GlueUCong, Glue, GlueFace}
+use Rattle.theory.specs.declared.rule.GlueRule.TheVariants.{Unglue, UnglueFace, UnglueCong}
+use Rattle.theory.specs.declared.rule.GlueRule.TheVariants.{GlueBeta, GlueEta}
+
+-- Written by tools/write_rules.py from here on.
 
 abbrev pub equality_depths : EqualityRule → List ℕ
 equality_depths TyEqRefl = 0 ∷ []
@@ -30,6 +46,10 @@ equality_depths TmEqSym = 0 ∷ 0 ∷ 0 ∷ []
 equality_depths TmEqTrans = 0 ∷ 0 ∷ 0 ∷ 0 ∷ []
 equality_depths TmConv = 0 ∷ 0 ∷ 0 ∷ []
 equality_depths TmEqConv = 0 ∷ 0 ∷ 0 ∷ 0 ∷ []
+equality_depths TyEqCover = 0 ∷ 0 ∷ 0 ∷ 0 ∷ []
+equality_depths TmEqCover = 0 ∷ 0 ∷ 0 ∷ 0 ∷ 0 ∷ []
+equality_depths TyEqAbsurd = 0 ∷ 0 ∷ []
+equality_depths TmEqAbsurd = 0 ∷ 0 ∷ 0 ∷ []
 
 abbrev pub universe_depths : UniverseRule → List ℕ
 universe_depths TyUniv = []
@@ -67,8 +87,11 @@ path_depths PathU = 1 ∷ 0 ∷ 0 ∷ []
 path_depths PathTyCong = 1 ∷ 1 ∷ 0 ∷ 0 ∷ 0 ∷ 0 ∷ []
 path_depths PathUCong = 1 ∷ 1 ∷ 0 ∷ 0 ∷ 0 ∷ 0 ∷ []
 path_depths PLam = 1 ∷ 1 ∷ 0 ∷ 0 ∷ []
+path_depths PApp = 0 ∷ 0 ∷ 1 ∷ 0 ∷ 0 ∷ []
+path_depths PAppCong = 0 ∷ 0 ∷ 0 ∷ 1 ∷ 0 ∷ 0 ∷ []
 path_depths PathLeft = 0 ∷ 1 ∷ 0 ∷ 0 ∷ []
 path_depths PathRight = 0 ∷ 1 ∷ 0 ∷ 0 ∷ []
+path_depths PathBeta = 1 ∷ 1 ∷ 0 ∷ []
 path_depths PathEta = 0 ∷ 0 ∷ 1 ∷ 0 ∷ 0 ∷ []
 
 abbrev pub nat_depths : NatRule → List ℕ
@@ -80,3 +103,40 @@ nat_depths NatRec = 1 ∷ 0 ∷ 0 ∷ 0 ∷ []
 nat_depths NatRecCong = 1 ∷ 1 ∷ 0 ∷ 0 ∷ 0 ∷ 0 ∷ 0 ∷ 0 ∷ []
 nat_depths NatRecZero = 1 ∷ 0 ∷ 0 ∷ []
 nat_depths NatRecSuc = 1 ∷ 0 ∷ 0 ∷ 0 ∷ []
+
+abbrev pub system_depths : SystemRule → List ℕ
+system_depths SysTy = 0 ∷ 0 ∷ 0 ∷ 0 ∷ []
+system_depths SysTm = 0 ∷ 0 ∷ 0 ∷ 0 ∷ 0 ∷ []
+system_depths SysTyLeft = 0 ∷ 0 ∷ 0 ∷ 0 ∷ []
+system_depths SysTyRight = 0 ∷ 0 ∷ 0 ∷ 0 ∷ []
+system_depths SysLeft = 0 ∷ 0 ∷ 0 ∷ 0 ∷ 0 ∷ []
+system_depths SysRight = 0 ∷ 0 ∷ 0 ∷ 0 ∷ 0 ∷ []
+system_depths EmptyTy = []
+system_depths EmptyTm = 0 ∷ []
+
+abbrev pub comp_depths : CompRule → List ℕ
+comp_depths Comp = 1 ∷ 0 ∷ 1 ∷ 0 ∷ []
+comp_depths CompFace = 1 ∷ 0 ∷ 1 ∷ 0 ∷ []
+comp_depths CompCong = 1 ∷ 1 ∷ 0 ∷ 0 ∷ 1 ∷ 1 ∷ 0 ∷ 0 ∷ []
+comp_depths CompPi = 1 ∷ 2 ∷ 0 ∷ 1 ∷ 0 ∷ []
+comp_depths CompSig = 1 ∷ 2 ∷ 0 ∷ 1 ∷ 0 ∷ []
+comp_depths CompPath = 2 ∷ 1 ∷ 1 ∷ 0 ∷ 1 ∷ 0 ∷ []
+comp_depths CompZero = 0 ∷ []
+comp_depths CompSuc = 0 ∷ 1 ∷ 0 ∷ []
+comp_depths CompGlue = 1 ∷ 1 ∷ 1 ∷ 1 ∷ 0 ∷ 1 ∷ 0 ∷ []
+comp_depths CompU = 0 ∷ 1 ∷ 0 ∷ []
+
+abbrev pub glue_depths : GlueRule → List ℕ
+glue_depths GlueTy = 0 ∷ 0 ∷ 0 ∷ 0 ∷ []
+glue_depths GlueU = 0 ∷ 0 ∷ 0 ∷ 0 ∷ []
+glue_depths GlueTyFace = 0 ∷ 0 ∷ 0 ∷ 0 ∷ []
+glue_depths GlueUFace = 0 ∷ 0 ∷ 0 ∷ 0 ∷ []
+glue_depths GlueTyCong = 0 ∷ 0 ∷ 0 ∷ 0 ∷ 0 ∷ 0 ∷ 0 ∷ 0 ∷ []
+glue_depths GlueUCong = 0 ∷ 0 ∷ 0 ∷ 0 ∷ 0 ∷ 0 ∷ 0 ∷ 0 ∷ []
+glue_depths Glue = 0 ∷ 0 ∷ 0 ∷ 0 ∷ 0 ∷ 0 ∷ []
+glue_depths GlueFace = 0 ∷ 0 ∷ 0 ∷ 0 ∷ 0 ∷ 0 ∷ []
+glue_depths Unglue = 0 ∷ 0 ∷ 0 ∷ 0 ∷ 0 ∷ []
+glue_depths UnglueFace = 0 ∷ 0 ∷ 0 ∷ 0 ∷ 0 ∷ []
+glue_depths UnglueCong = 0 ∷ 0 ∷ 0 ∷ 0 ∷ 0 ∷ 0 ∷ 0 ∷ 0 ∷ 0 ∷ []
+glue_depths GlueBeta = 0 ∷ 0 ∷ 0 ∷ 0 ∷ 0 ∷ 0 ∷ []
+glue_depths GlueEta = 0 ∷ 0 ∷ 0 ∷ 0 ∷ 0 ∷ 0 ∷ []

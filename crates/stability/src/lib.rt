@@ -12,9 +12,14 @@ ghost use Rattle.theory.specs.declared.rule.SigmaRule.{SigmaRule};
 ghost use Rattle.theory.specs.declared.rule.PathRule.{PathRule};
 ghost use Rattle.theory.specs.declared.rule.NatRule.{NatRule};
 ghost use Rattle.theory.specs.declared.rule.RuleName.TheVariants.{Equality, Universe, Pi, Sigma};
-ghost use Rattle.theory.specs.declared.rule.RuleName.TheVariants.{Paths, Naturals};
+ghost use Rattle.theory.specs.declared.rule.SystemRule.{SystemRule};
+ghost use Rattle.theory.specs.declared.rule.CompRule.{CompRule};
+ghost use Rattle.theory.specs.declared.rule.GlueRule.{GlueRule};
+ghost use Rattle.theory.specs.declared.rule.RuleName.TheVariants.{Paths, Naturals, Systems};
+ghost use Rattle.theory.specs.declared.rule.RuleName.TheVariants.{Composition, Gluing};
 ghost use Rattle.stability.specs.Depths.{equality_depths, universe_depths, pi_depths};
 ghost use Rattle.stability.specs.Depths.{sigma_depths, path_depths, nat_depths};
+ghost use Rattle.stability.specs.Depths.{system_depths, comp_depths, glue_depths};
 ghost use Rattle.stability.specs.Stable.{IsStable};
 
 /// Whatever substitution d : H to G there is, it takes the premises, side conditions and conclusion
@@ -28,4 +33,7 @@ pub fn rules_are_stable()
     ensures sigma { (name : SigmaRule) → IsStable (Sigma name) (sigma_depths name) }
     ensures paths { (name : PathRule) → IsStable (Paths name) (path_depths name) }
     ensures naturals { (name : NatRule) → IsStable (Naturals name) (nat_depths name) }
+    ensures systems { (name : SystemRule) → IsStable (Systems name) (system_depths name) }
+    ensures composition { (name : CompRule) → IsStable (Composition name) (comp_depths name) }
+    ensures gluing { (name : GlueRule) → IsStable (Gluing name) (glue_depths name) }
 {}

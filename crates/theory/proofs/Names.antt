@@ -11,6 +11,7 @@ use Rattle.theory.specs.declared.operators.TheConstants.{OPERATORS}
 use Rattle.theory.specs.declared.rule.RuleName.{RuleName}
 use Rattle.theory.specs.declared.rule.RuleName.TheVariants.{Contexts, Instances, Equality}
 use Rattle.theory.specs.declared.rule.RuleName.TheVariants.{Universe, Pi, Sigma, Paths, Naturals}
+use Rattle.theory.specs.declared.rule.RuleName.TheVariants.{Systems, Composition, Gluing}
 use Rattle.theory.specs.declared.rule.ContextRule.TheVariants.{CtxNil}
 use Rattle.theory.specs.declared.rule.InstanceRule.TheVariants.{TySub}
 use Rattle.theory.specs.declared.rule.EqualityRule.TheVariants.{TyEqRefl}
@@ -19,6 +20,9 @@ use Rattle.theory.specs.declared.rule.PiRule.TheVariants.{PiTy}
 use Rattle.theory.specs.declared.rule.SigmaRule.TheVariants.{SigTy}
 use Rattle.theory.specs.declared.rule.PathRule.TheVariants.{PathTy}
 use Rattle.theory.specs.declared.rule.NatRule.TheVariants.{NatU}
+use Rattle.theory.specs.declared.rule.SystemRule.TheVariants.{SysTy}
+use Rattle.theory.specs.declared.rule.CompRule.TheVariants.{Comp}
+use Rattle.theory.specs.declared.rule.GlueRule.TheVariants.{GlueTy}
 use Rattle.theory.specs.declared.rule.TheConstants.{RULES}
 use Rattle.theory.proofs.LookupLaws.{named, same_from_name}
 
@@ -56,6 +60,12 @@ every_rule (Paths PathTy) = refl
 every_rule (Paths _) = refl
 every_rule (Naturals NatU) = refl
 every_rule (Naturals _) = refl
+every_rule (Systems SysTy) = refl
+every_rule (Systems _) = refl
+every_rule (Composition Comp) = refl
+every_rule (Composition _) = refl
+every_rule (Gluing GlueTy) = refl
+every_rule (Gluing _) = refl
 
 rule_is_visible : (rule : RuleName) → is_visible (rule_name rule) ≡ true
 rule_is_visible (Contexts CtxNil) = refl
@@ -74,6 +84,12 @@ rule_is_visible (Paths PathTy) = refl
 rule_is_visible (Paths _) = refl
 rule_is_visible (Naturals NatU) = refl
 rule_is_visible (Naturals _) = refl
+rule_is_visible (Systems SysTy) = refl
+rule_is_visible (Systems _) = refl
+rule_is_visible (Composition Comp) = refl
+rule_is_visible (Composition _) = refl
+rule_is_visible (Gluing GlueTy) = refl
+rule_is_visible (Gluing _) = refl
 
 pub operator_visible : (op : Op) → All (λ b. 32 < b) (operator_name op)
 operator_visible op = visible (operator_name op) (operator_is_visible op)

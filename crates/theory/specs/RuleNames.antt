@@ -31,9 +31,22 @@ use Rattle.theory.specs.declared.rule.PathRule.TheVariants.{PathRight, PathBeta,
 use Rattle.theory.specs.declared.rule.NatRule.{NatRule}
 use Rattle.theory.specs.declared.rule.NatRule.TheVariants.{NatU, Zero, Suc, SucCong, NatRec}
 use Rattle.theory.specs.declared.rule.NatRule.TheVariants.{NatRecCong, NatRecZero, NatRecSuc}
+use Rattle.theory.specs.declared.rule.SystemRule.{SystemRule}
+use Rattle.theory.specs.declared.rule.SystemRule.TheVariants.{SysTy, SysTm, SysTyLeft, SysTyRight}
+use Rattle.theory.specs.declared.rule.SystemRule.TheVariants.{SysLeft, SysRight, EmptyTy, EmptyTm}
+use Rattle.theory.specs.declared.rule.CompRule.{CompRule}
+use Rattle.theory.specs.declared.rule.CompRule.TheVariants.{Comp, CompFace, CompCong, CompPi}
+use Rattle.theory.specs.declared.rule.CompRule.TheVariants.{CompSig, CompPath, CompZero, CompSuc}
+use Rattle.theory.specs.declared.rule.CompRule.TheVariants.{CompGlue, CompU}
+use Rattle.theory.specs.declared.rule.GlueRule.{GlueRule}
+use Rattle.theory.specs.declared.rule.GlueRule.TheVariants.{GlueTy, GlueU, GlueTyFace, GlueUFace}
+use Rattle.theory.specs.declared.rule.GlueRule.TheVariants.{GlueTyCong, GlueUCong, Glue, GlueFace}
+use Rattle.theory.specs.declared.rule.GlueRule.TheVariants.{Unglue, UnglueFace, UnglueCong}
+use Rattle.theory.specs.declared.rule.GlueRule.TheVariants.{GlueBeta, GlueEta}
 use Rattle.theory.specs.declared.rule.RuleName.{RuleName}
 use Rattle.theory.specs.declared.rule.RuleName.TheVariants.{Contexts, Instances, Equality, Universe}
-use Rattle.theory.specs.declared.rule.RuleName.TheVariants.{Pi, Sigma, Paths, Naturals}
+use Rattle.theory.specs.declared.rule.RuleName.TheVariants.{Pi, Sigma, Paths, Naturals, Systems}
+use Rattle.theory.specs.declared.rule.RuleName.TheVariants.{Composition, Gluing}
 use Rattle.theory.specs.declared.signatures.Signature.{Signature as Row}
 
 -- the name, the kinds of the parts in their order, the number of premises, and the first version
@@ -157,6 +170,60 @@ nat_signature NatRecCong = signed (codes "natrec.cong")
 nat_signature NatRecZero = signed (codes "natrec.zero") (Context ∷ Term ∷ Term ∷ Term ∷ []) 3
 nat_signature NatRecSuc = signed (codes "natrec.suc") (Context ∷ Term ∷ Term ∷ Term ∷ Term ∷ []) 4
 
+abbrev pub system_signature : SystemRule → Signature
+system_signature SysTy = signed (codes "sys.ty") (Context ∷ Term ∷ Term ∷ Term ∷ Term ∷ []) 3
+system_signature SysTm = signed (codes "sys.tm") (Context ∷ Term ∷ Term ∷ Term ∷ Term ∷ Term ∷ []) 4
+system_signature SysTyLeft = signed (codes "sys.tyleft")
+    (Context ∷ Term ∷ Term ∷ Term ∷ Term ∷ []) 3
+system_signature SysTyRight = signed (codes "sys.tyright")
+    (Context ∷ Term ∷ Term ∷ Term ∷ Term ∷ []) 3
+system_signature SysLeft = signed (codes "sys.left")
+    (Context ∷ Term ∷ Term ∷ Term ∷ Term ∷ Term ∷ []) 4
+system_signature SysRight = signed (codes "sys.right")
+    (Context ∷ Term ∷ Term ∷ Term ∷ Term ∷ Term ∷ []) 4
+system_signature EmptyTy = signed (codes "empty.ty") (Context ∷ []) 1
+system_signature EmptyTm = signed (codes "empty.tm") (Context ∷ Term ∷ []) 1
+
+abbrev pub comp_signature : CompRule → Signature
+comp_signature Comp = signed (codes "comp") (Context ∷ Term ∷ Term ∷ Term ∷ Term ∷ []) 4
+comp_signature CompFace = signed (codes "comp.face") (Context ∷ Term ∷ Term ∷ Term ∷ Term ∷ []) 4
+comp_signature CompCong = signed (codes "comp.cong")
+    (Context ∷ Term ∷ Term ∷ Term ∷ Term ∷ Term ∷ Term ∷ Term ∷ Term ∷ []) 6
+comp_signature CompPi = signed (codes "comp.pi") (Context ∷ Term ∷ Term ∷ Term ∷ Term ∷ Term ∷ []) 5
+comp_signature CompSig = signed (codes "comp.sig")
+    (Context ∷ Term ∷ Term ∷ Term ∷ Term ∷ Term ∷ []) 5
+comp_signature CompPath = signed (codes "comp.path")
+    (Context ∷ Term ∷ Term ∷ Term ∷ Term ∷ Term ∷ Term ∷ []) 6
+comp_signature CompZero = signed (codes "comp.zero") (Context ∷ Term ∷ []) 1
+comp_signature CompSuc = signed (codes "comp.suc") (Context ∷ Term ∷ Term ∷ Term ∷ []) 3
+comp_signature CompGlue = signed (codes "comp.glue")
+    (Context ∷ Term ∷ Term ∷ Term ∷ Term ∷ Term ∷ Term ∷ Term ∷ []) 6
+comp_signature CompU = signed (codes "comp.u") (Context ∷ Term ∷ Term ∷ Term ∷ []) 3
+
+abbrev pub glue_signature : GlueRule → Signature
+glue_signature GlueTy = signed (codes "glue.ty") (Context ∷ Term ∷ Term ∷ Term ∷ Term ∷ []) 3
+glue_signature GlueU = signed (codes "glue.u") (Context ∷ Term ∷ Term ∷ Term ∷ Term ∷ []) 3
+glue_signature GlueTyFace = signed (codes "glue.tyface")
+    (Context ∷ Term ∷ Term ∷ Term ∷ Term ∷ []) 3
+glue_signature GlueUFace = signed (codes "glue.uface") (Context ∷ Term ∷ Term ∷ Term ∷ Term ∷ []) 3
+glue_signature GlueTyCong = signed (codes "glue.tycong")
+    (Context ∷ Term ∷ Term ∷ Term ∷ Term ∷ Term ∷ Term ∷ Term ∷ Term ∷ []) 3
+glue_signature GlueUCong = signed (codes "glue.ucong")
+    (Context ∷ Term ∷ Term ∷ Term ∷ Term ∷ Term ∷ Term ∷ Term ∷ Term ∷ []) 3
+glue_signature Glue = signed (codes "glue")
+    (Context ∷ Term ∷ Term ∷ Term ∷ Term ∷ Term ∷ Term ∷ []) 6
+glue_signature GlueFace = signed (codes "glue.face")
+    (Context ∷ Term ∷ Term ∷ Term ∷ Term ∷ Term ∷ Term ∷ []) 6
+glue_signature Unglue = signed (codes "unglue") (Context ∷ Term ∷ Term ∷ Term ∷ Term ∷ Term ∷ []) 4
+glue_signature UnglueFace = signed (codes "unglue.face")
+    (Context ∷ Term ∷ Term ∷ Term ∷ Term ∷ Term ∷ []) 4
+glue_signature UnglueCong = signed (codes "unglue.cong")
+    (Context ∷ Term ∷ Term ∷ Term ∷ Term ∷ Term ∷ Term ∷ Term ∷ Term ∷ Term ∷ []) 6
+glue_signature GlueBeta = signed (codes "glue.beta")
+    (Context ∷ Term ∷ Term ∷ Term ∷ Term ∷ Term ∷ Term ∷ []) 6
+glue_signature GlueEta = signed (codes "glue.eta")
+    (Context ∷ Term ∷ Term ∷ Term ∷ Term ∷ Term ∷ Term ∷ []) 7
+
 abbrev pub signature_of : RuleName → Signature
 signature_of (Contexts rule) = context_signature rule
 signature_of (Instances rule) = instance_signature rule
@@ -166,6 +233,9 @@ signature_of (Pi rule) = pi_signature rule
 signature_of (Sigma rule) = sigma_signature rule
 signature_of (Paths rule) = path_signature rule
 signature_of (Naturals rule) = nat_signature rule
+signature_of (Systems rule) = system_signature rule
+signature_of (Composition rule) = comp_signature rule
+signature_of (Gluing rule) = glue_signature rule
 
 -- Written by hand from here on.
 

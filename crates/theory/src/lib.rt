@@ -15,9 +15,9 @@ mod signatures;
 
 pub use operators::op_of;
 pub use rule::{
-    ContextRule, EqualityRule, InstanceRule, NatRule, PathRule, PiRule, RULES, RuleName, SigmaRule,
-    UniverseRule, count_parts, count_premises, numbered_rule, part_kind, part_kinds, rule_name,
-    rule_number, rule_of,
+    CompRule, ContextRule, EqualityRule, GlueRule, InstanceRule, NatRule, PathRule, PiRule, RULES,
+    RuleName, SigmaRule, SystemRule, UniverseRule, count_parts, count_premises, numbered_rule,
+    part_kind, part_kinds, rule_name, rule_number, rule_of,
 };
 pub use signatures::{Signature, signature_of};
 pub use trees::{Claim, ClaimRows, JudgementForm, Op, PartKind, binds, kid_count, op_name};

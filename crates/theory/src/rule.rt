@@ -125,6 +125,52 @@ pub enum NatRule {
     NatRecSuc,
 }
 
+/// The rules of systems.
+#[derive(Clone, Copy, Debug, PartialEq, Eq)]
+pub enum SystemRule {
+    SysTy,
+    SysTm,
+    SysTyLeft,
+    SysTyRight,
+    SysLeft,
+    SysRight,
+    EmptyTy,
+    EmptyTm,
+}
+
+/// The rules of composition.
+#[derive(Clone, Copy, Debug, PartialEq, Eq)]
+pub enum CompRule {
+    Comp,
+    CompFace,
+    CompCong,
+    CompPi,
+    CompSig,
+    CompPath,
+    CompZero,
+    CompSuc,
+    CompGlue,
+    CompU,
+}
+
+/// The rules of Glue.
+#[derive(Clone, Copy, Debug, PartialEq, Eq)]
+pub enum GlueRule {
+    GlueTy,
+    GlueU,
+    GlueTyFace,
+    GlueUFace,
+    GlueTyCong,
+    GlueUCong,
+    Glue,
+    GlueFace,
+    Unglue,
+    UnglueFace,
+    UnglueCong,
+    GlueBeta,
+    GlueEta,
+}
+
 /// A rule. The rules stand in families.
 #[derive(Clone, Copy, Debug, PartialEq, Eq)]
 pub enum RuleName {
@@ -136,18 +182,43 @@ pub enum RuleName {
     Sigma(SigmaRule),
     Paths(PathRule),
     Naturals(NatRule),
+    Systems(SystemRule),
+    Composition(CompRule),
+    Gluing(GlueRule),
 }
 
 /// Every rule, in the order of their names.
 pub static RULES: &[RuleName] = &[
     RuleName::Pi(PiRule::App),
     RuleName::Pi(PiRule::AppCong),
+    RuleName::Composition(CompRule::Comp),
+    RuleName::Composition(CompRule::CompCong),
+    RuleName::Composition(CompRule::CompFace),
+    RuleName::Composition(CompRule::CompGlue),
+    RuleName::Composition(CompRule::CompPath),
+    RuleName::Composition(CompRule::CompPi),
+    RuleName::Composition(CompRule::CompSig),
+    RuleName::Composition(CompRule::CompSuc),
+    RuleName::Composition(CompRule::CompU),
+    RuleName::Composition(CompRule::CompZero),
     RuleName::Contexts(ContextRule::CtxFace),
     RuleName::Contexts(ContextRule::CtxName),
     RuleName::Contexts(ContextRule::CtxNil),
     RuleName::Contexts(ContextRule::CtxVar),
+    RuleName::Systems(SystemRule::EmptyTm),
+    RuleName::Systems(SystemRule::EmptyTy),
     RuleName::Sigma(SigmaRule::Fst),
     RuleName::Sigma(SigmaRule::FstCong),
+    RuleName::Gluing(GlueRule::Glue),
+    RuleName::Gluing(GlueRule::GlueBeta),
+    RuleName::Gluing(GlueRule::GlueEta),
+    RuleName::Gluing(GlueRule::GlueFace),
+    RuleName::Gluing(GlueRule::GlueTy),
+    RuleName::Gluing(GlueRule::GlueTyCong),
+    RuleName::Gluing(GlueRule::GlueTyFace),
+    RuleName::Gluing(GlueRule::GlueU),
+    RuleName::Gluing(GlueRule::GlueUCong),
+    RuleName::Gluing(GlueRule::GlueUFace),
     RuleName::Pi(PiRule::Lam),
     RuleName::Naturals(NatRule::NatU),
     RuleName::Naturals(NatRule::NatRec),
@@ -191,6 +262,12 @@ pub static RULES: &[RuleName] = &[
     RuleName::Contexts(ContextRule::SubWkName),
     RuleName::Naturals(NatRule::Suc),
     RuleName::Naturals(NatRule::SucCong),
+    RuleName::Systems(SystemRule::SysLeft),
+    RuleName::Systems(SystemRule::SysRight),
+    RuleName::Systems(SystemRule::SysTm),
+    RuleName::Systems(SystemRule::SysTy),
+    RuleName::Systems(SystemRule::SysTyLeft),
+    RuleName::Systems(SystemRule::SysTyRight),
     RuleName::Instances(InstanceRule::TmCong),
     RuleName::Equality(EqualityRule::TmConv),
     RuleName::Instances(InstanceRule::TmInt),
@@ -215,6 +292,9 @@ pub static RULES: &[RuleName] = &[
     RuleName::Equality(EqualityRule::TyEqSym),
     RuleName::Equality(EqualityRule::TyEqTrans),
     RuleName::Universe(UniverseRule::TyEqU),
+    RuleName::Gluing(GlueRule::Unglue),
+    RuleName::Gluing(GlueRule::UnglueCong),
+    RuleName::Gluing(GlueRule::UnglueFace),
     RuleName::Naturals(NatRule::Zero),
 ];
 

@@ -4,11 +4,12 @@ ghost use Rattle.std.specs.Prelude.{◌≡◌};
 ghost use Rattle.theory.specs.RuleNames.{signed, context_signature, instance_signature};
 ghost use Rattle.theory.specs.RuleNames.{equality_signature, universe_signature, pi_signature};
 ghost use Rattle.theory.specs.RuleNames.{sigma_signature, path_signature, nat_signature};
+ghost use Rattle.theory.specs.RuleNames.{system_signature, comp_signature, glue_signature};
 ghost use Rattle.theory.specs.RuleNames.{signature_of, Shows};
 
 use crate::rule::{
-    ContextRule, EqualityRule, InstanceRule, NatRule, PathRule, PiRule, RuleName, SigmaRule,
-    UniverseRule,
+    CompRule, ContextRule, EqualityRule, GlueRule, InstanceRule, NatRule, PathRule, PiRule,
+    RuleName, SigmaRule, SystemRule, UniverseRule,
 };
 use PartKind::{Context, Subst, Term};
 use trees::PartKind;
@@ -208,6 +209,96 @@ fn nat_signature(rule: NatRule) -> Signature
     }
 }
 
+fn system_signature(rule: SystemRule) -> Signature
+    ensures { Shows (system_signature rule) result }
+{
+    match rule {
+        SystemRule::SysTy => signed("sys.ty", &[Context, Term, Term, Term, Term], 3),
+        SystemRule::SysTm => signed("sys.tm", &[Context, Term, Term, Term, Term, Term], 4),
+        SystemRule::SysTyLeft => signed("sys.tyleft", &[Context, Term, Term, Term, Term], 3),
+        SystemRule::SysTyRight => signed("sys.tyright", &[Context, Term, Term, Term, Term], 3),
+        SystemRule::SysLeft => signed("sys.left", &[Context, Term, Term, Term, Term, Term], 4),
+        SystemRule::SysRight => signed("sys.right", &[Context, Term, Term, Term, Term, Term], 4),
+        SystemRule::EmptyTy => signed("empty.ty", &[Context], 1),
+        SystemRule::EmptyTm => signed("empty.tm", &[Context, Term], 1),
+    }
+}
+
+fn comp_signature(rule: CompRule) -> Signature
+    ensures { Shows (comp_signature rule) result }
+{
+    match rule {
+        CompRule::Comp => signed("comp", &[Context, Term, Term, Term, Term], 4),
+        CompRule::CompFace => signed("comp.face", &[Context, Term, Term, Term, Term], 4),
+        CompRule::CompCong => signed(
+            "comp.cong",
+            &[Context, Term, Term, Term, Term, Term, Term, Term, Term],
+            6,
+        ),
+        CompRule::CompPi => signed("comp.pi", &[Context, Term, Term, Term, Term, Term], 5),
+        CompRule::CompSig => signed("comp.sig", &[Context, Term, Term, Term, Term, Term], 5),
+        CompRule::CompPath => signed(
+            "comp.path",
+            &[Context, Term, Term, Term, Term, Term, Term],
+            6,
+        ),
+        CompRule::CompZero => signed("comp.zero", &[Context, Term], 1),
+        CompRule::CompSuc => signed("comp.suc", &[Context, Term, Term, Term], 3),
+        CompRule::CompGlue => signed(
+            "comp.glue",
+            &[Context, Term, Term, Term, Term, Term, Term, Term],
+            6,
+        ),
+        CompRule::CompU => signed("comp.u", &[Context, Term, Term, Term], 3),
+    }
+}
+
+fn glue_signature(rule: GlueRule) -> Signature
+    ensures { Shows (glue_signature rule) result }
+{
+    match rule {
+        GlueRule::GlueTy => signed("glue.ty", &[Context, Term, Term, Term, Term], 3),
+        GlueRule::GlueU => signed("glue.u", &[Context, Term, Term, Term, Term], 3),
+        GlueRule::GlueTyFace => signed("glue.tyface", &[Context, Term, Term, Term, Term], 3),
+        GlueRule::GlueUFace => signed("glue.uface", &[Context, Term, Term, Term, Term], 3),
+        GlueRule::GlueTyCong => signed(
+            "glue.tycong",
+            &[Context, Term, Term, Term, Term, Term, Term, Term, Term],
+            3,
+        ),
+        GlueRule::GlueUCong => signed(
+            "glue.ucong",
+            &[Context, Term, Term, Term, Term, Term, Term, Term, Term],
+            3,
+        ),
+        GlueRule::Glue => signed("glue", &[Context, Term, Term, Term, Term, Term, Term], 6),
+        GlueRule::GlueFace => signed(
+            "glue.face",
+            &[Context, Term, Term, Term, Term, Term, Term],
+            6,
+        ),
+        GlueRule::Unglue => signed("unglue", &[Context, Term, Term, Term, Term, Term], 4),
+        GlueRule::UnglueFace => signed("unglue.face", &[Context, Term, Term, Term, Term, Term], 4),
+        GlueRule::UnglueCong => signed(
+            "unglue.cong",
+            &[
+                Context, Term, Term, Term, Term, Term, Term, Term, Term, Term,
+            ],
+            6,
+        ),
+        GlueRule::GlueBeta => signed(
+            "glue.beta",
+            &[Context, Term, Term, Term, Term, Term, Term],
+            6,
+        ),
+        GlueRule::GlueEta => signed(
+            "glue.eta",
+            &[Context, Term, Term, Term, Term, Term, Term],
+            7,
+        ),
+    }
+}
+
 /// The signature of a rule.
 pub fn signature_of(rule: RuleName) -> Signature
     ensures { Shows (signature_of rule) result }
@@ -221,5 +312,8 @@ pub fn signature_of(rule: RuleName) -> Signature
         RuleName::Sigma(rule) => sigma_signature(rule),
         RuleName::Paths(rule) => path_signature(rule),
         RuleName::Naturals(rule) => nat_signature(rule),
+        RuleName::Systems(rule) => system_signature(rule),
+        RuleName::Composition(rule) => comp_signature(rule),
+        RuleName::Gluing(rule) => glue_signature(rule),
     }
 }
