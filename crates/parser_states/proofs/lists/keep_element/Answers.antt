@@ -1,0 +1,10 @@
+use Rattle.std.proofs.Common.{◌≡◌, ◌∙◌}
+use Rattle.syntax.specs.View.{elements_of, element_of}
+use Rattle.parser_states.proofs.Keeping.{keep_none, keep_some}
+use Rattle.parser_states.proofs.lists.keep_element.Goals as goal
+
+pub returns-then-room-eq0 : goal.returns-then-room-eq0
+returns-then-room-eq0 c = keep_none c.args.room (elements_of c.args.elements) (element_of c.args.element) c.if-room-eq0.true
+
+pub returns : goal.returns
+returns c = c.in_ok-push.ensures.ok ∙ keep_some c.args.room (elements_of c.args.elements) (element_of c.args.element) c.if-room-eq0.false

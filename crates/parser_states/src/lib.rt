@@ -1,0 +1,20 @@
+//! The states of the parser of modules: what was read last, and what is open round it.
+//!
+//! `specs/View` says which state of `productions` each one stands for, and so what a step has to
+//! give.
+#![tactic(auto)]
+
+mod lists;
+mod places;
+mod state;
+mod words;
+
+pub use lists::{
+    inside, keep_def, keep_element, keep_exp, keep_side, keep_tele, shallow, shallow_formula, span,
+    spanned, under, with_name,
+};
+pub use state::{
+    Binder, Block, Frame, Given, Heading, HeldSlot, Inner, Items, Named, Names, Operand, Owner,
+    Parser, Place, Prefix, Slot, Spine, Stop, System, Top, Typing, Use,
+};
+pub use words::{Composing, FormWord, Gluing, Pairing, form_word};
