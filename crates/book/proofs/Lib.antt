@@ -1,3 +1,4 @@
 pub mod NodeLaws
 pub mod BookLaws
 pub mod CutLaws
+pub mod TestLaws

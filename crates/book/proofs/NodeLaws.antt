@@ -33,7 +33,7 @@ use Rattle.book.specs.Right.{IsUse, IsRight, AreRight}
 
 -- a node fits its words
 
-named-all : (test : RuleName → Bool) (table : List RuleName) (word : List ℕ) (rule : RuleName) → named name_of table word ≡ Some rule → list_all test table ≡ true → test rule ≡ true
+pub named-all : (test : RuleName → Bool) (table : List RuleName) (word : List ℕ) (rule : RuleName) → named name_of table word ≡ Some rule → list_all test table ≡ true → test rule ≡ true
 named-all test [] word rule e all = cc
 named-all test (x ∷ table) word rule e all = from (bytes_eq word (name_of x)) e (named-all test table word rule)
   where

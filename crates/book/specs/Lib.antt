@@ -3,3 +3,4 @@ pub mod Coded
 pub mod Right
 pub mod Contents
 pub mod Shown
+pub mod Tests

@@ -5,7 +5,7 @@ use crate::node_words::{NodeCells, claim_of, node_words, read_node};
 use compare::Comparison;
 use interned::InternedRows;
 use region::{Region, RowId};
-use rows::TermId;
+use rows::{Row, TermId};
 use rules::concluded;
 use std::alloc::{AllocError, Global};
 use std::marker::Model;
@@ -68,13 +68,15 @@ impl Book {
     ghost use Rattle.trees.specs.Judgements.{Judgement};
     ghost use Rattle.trees.specs.Things.{meanings};
     ghost use Rattle.trees.specs.Claimed.{claimed};
-    ghost use Rattle.rows.specs.Views.{IsTree};
+    ghost use Rattle.rows.specs.Views.{IsTree, row_meaning};
+    ghost use Rattle.interned.specs.Names.{row_names};
+    ghost use Rattle.interned.specs.Coded.{AreCoded};
     ghost use Rattle.rules.specs.Schemas.{most_rows};
     ghost use Rattle.rules.specs.Shifts.{ShiftsFit};
     ghost use Rattle.derivation.specs.Derivations.{Provable};
     ghost use Rattle.book.specs.Nodes.{places_of};
     ghost use Rattle.book.specs.Coded.{node_shown};
-    ghost use Rattle.book.specs.Right.{IsUse, IsMadeBy};
+    ghost use Rattle.book.specs.Right.{IsUse, IsMadeBy, AreRight};
     ghost use Rattle.book.specs.Shown.{book_means, book_nodes, book_concludes, Extends, IsMark};
     ghost use Rattle.book.specs.Shown.{Released};
 
@@ -162,6 +164,15 @@ impl Book {
         }
     }
 
+    /// A row of any kind, as it was made. It names earlier rows.
+    pub fn row(&self, row: u64) -> Row<'_>
+        requires { IsSome (book_means self.now row) }
+        ensures meaning { book_means self.now row ≡ row_meaning (book_means self.now) result }
+        ensures earlier { All (λ k. k < row) (row_names result) }
+    {
+        self.rows.row(row)
+    }
+
     /// Whether two rows mean the same tree.
     pub fn same_tree(&self, left: TermId, right: TermId) -> Result<bool, AllocError>
         requires left { IsTree (book_means self.now left.0) }
@@ -205,6 +216,14 @@ impl Book {
     {
         self.rows.release(region::Mark(mark.rows));
         self.nodes.release(region::Mark(mark.nodes));
+    }
+
+    /// Each row means something, and each node is right.
+    pub fn laws_of_book(&self)
+        ensures rows { AreCoded self.now.rows }
+        ensures nodes { AreRight (book_means self.now) self.now.nodes }
+    {
+        let _ = &self.nodes;
     }
 
     /// Every node of the book is provable by the rules.

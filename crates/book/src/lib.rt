@@ -18,3 +18,6 @@ mod node_words;
 
 pub use few::{Few, RuleUse};
 pub use kernel::{Book, Mark, NodeId, NodeRow};
+
+#[cfg(test)]
+mod tests;

@@ -1,3 +1,4 @@
 pub mod HeadLaws
 pub mod CodingLaws
 pub mod CodedLaws
+pub mod NameLaws

@@ -5,15 +5,15 @@ ghost use Rattle.std.specs.Prelude.{◌≡◌, ◌≤◌, IsSome, length};
 ghost use Rattle.trees.specs.Trees.{greatest_shift};
 ghost use Rattle.trees.specs.Things.{Meanings};
 ghost use Rattle.rows.specs.Counts.{most_counted};
-ghost use Rattle.rows.specs.Views.{IsTree, IsSubst, IsContext, term_meaning, sub_meaning};
-ghost use Rattle.rows.specs.Views.{ctx_meaning};
+ghost use Rattle.rows.specs.Views.{IsSubst, term_meaning, sub_meaning};
+ghost use Rattle.rows.specs.Views.{ctx_meaning, row_meaning};
 ghost use Rattle.interned.specs.Heads.{head_coded, IsHeaded};
 ghost use Rattle.interned.specs.Coding.{thing_coded, pushed_coded, shift_coded, IsTermFit};
 ghost use Rattle.interned.specs.Coding.{IsShiftFit};
 
 use crate::heads::{Head, head_word, row_head};
 use crate::words::Words;
-use rows::{CtxId, CtxRow, HeldSize, SubId, SubRow, TermId, TermRow};
+use rows::{CtxId, CtxRow, HeldSize, Row, SubId, SubRow, TermId, TermRow};
 
 /// 2^64: what the first word of a count of trees counts.
 const HIGH: u128 = 1 << 64;
@@ -84,31 +84,23 @@ fn opened(words: &[u64]) -> (Head, &[u64])
     (row_head(words), words.split_at(1).1)
 }
 
-/// The row of a tree that has these words.
-pub fn term_row(words: &[u64]) -> TermRow<'_>
-    requires { (f : Meanings) × IsTree (thing_coded f words.now) }
-    ensures { (f : Meanings) → thing_coded f words.now ≡ term_meaning f result }
+/// The row that has these words.
+pub fn coded_row(words: &[u64]) -> Row<'_>
+    requires { (f : Meanings) × IsSome (thing_coded f words.now) }
+    ensures { (f : Meanings) → thing_coded f words.now ≡ row_meaning f result }
 {
     let (head, cells) = opened(words);
     match head {
-        Head::Var => TermRow::Var(cells[0] as u32),
-        Head::Make(op) => TermRow::Make(op, cells),
-        Head::Instance => TermRow::Instance(TermId(cells[0]), SubId(cells[1])),
-        _ => unreachable!(),
-    }
-}
-
-/// The row of a substitution that has these words.
-pub fn sub_row(words: &[u64]) -> SubRow
-    requires { (f : Meanings) × IsSubst (thing_coded f words.now) }
-    ensures { (f : Meanings) → thing_coded f words.now ≡ sub_meaning f result }
-{
-    let (head, cells) = opened(words);
-    match head {
-        Head::Shift => SubRow::Shift(cells[3]),
-        Head::Push => SubRow::Push(SubId(cells[3]), TermId(cells[4])),
-        Head::Then => SubRow::Then(SubId(cells[3]), SubId(cells[4])),
-        _ => unreachable!(),
+        Head::Var => Row::Term(TermRow::Var(cells[0] as u32)),
+        Head::Make(op) => Row::Term(TermRow::Make(op, cells)),
+        Head::Instance => Row::Term(TermRow::Instance(TermId(cells[0]), SubId(cells[1]))),
+        Head::Shift => Row::Subst(SubRow::Shift(cells[3])),
+        Head::Push => Row::Subst(SubRow::Push(SubId(cells[3]), TermId(cells[4]))),
+        Head::Then => Row::Subst(SubRow::Then(SubId(cells[3]), SubId(cells[4]))),
+        Head::CtxNil => Row::Context(CtxRow::Nil),
+        Head::CtxVar => Row::Context(CtxRow::Var(CtxId(cells[0]), TermId(cells[1]))),
+        Head::CtxName => Row::Context(CtxRow::Name(CtxId(cells[0]))),
+        Head::CtxFace => Row::Context(CtxRow::Face(CtxId(cells[0]), TermId(cells[1]))),
     }
 }
 
@@ -122,20 +114,5 @@ pub fn sub_size(words: &[u64]) -> HeldSize
     HeldSize {
         pushed: u128::from(words[1]) * HIGH + u128::from(words[2]),
         shift: words[3],
-    }
-}
-
-/// The row of a context that has these words.
-pub fn ctx_row(words: &[u64]) -> CtxRow
-    requires { (f : Meanings) × IsContext (thing_coded f words.now) }
-    ensures { (f : Meanings) → thing_coded f words.now ≡ ctx_meaning f result }
-{
-    let (head, cells) = opened(words);
-    match head {
-        Head::CtxNil => CtxRow::Nil,
-        Head::CtxVar => CtxRow::Var(CtxId(cells[0]), TermId(cells[1])),
-        Head::CtxName => CtxRow::Name(CtxId(cells[0])),
-        Head::CtxFace => CtxRow::Face(CtxId(cells[0]), TermId(cells[1])),
-        _ => unreachable!(),
     }
 }

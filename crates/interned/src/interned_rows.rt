@@ -2,10 +2,12 @@
 
 ghost use Rattle.interned.specs.Coded.{AreCoded};
 
-use crate::coding::{ctx_row, ctx_words, sub_row, sub_size, sub_words, term_row, term_words};
+use crate::coding::{coded_row, ctx_words, sub_size, sub_words, term_words};
 use crate::words::Words;
 use region::{Mark, Region, RowId};
-use rows::{CtxId, CtxRow, HeldSize, Maker, Reader, Rows, SubId, SubRow, SubSize, TermId, TermRow};
+use rows::{
+    CtxId, CtxRow, HeldSize, Maker, Reader, Row, Rows, SubId, SubRow, SubSize, TermId, TermRow,
+};
 use std::alloc::{AllocError, Global};
 use trees::Op;
 
@@ -26,6 +28,8 @@ impl InternedRows {
     ghost use Rattle.std.specs.List.{All};
     ghost use Rattle.trees.specs.Things.{Kept};
     ghost use Rattle.rows.specs.Views.{IsSubst, term_meaning, sub_meaning, ctx_meaning};
+    ghost use Rattle.rows.specs.Views.{row_meaning};
+    ghost use Rattle.interned.specs.Names.{row_names};
     ghost use Rattle.rows.specs.Held.{IsSizeAt};
     ghost use Rattle.interned.specs.Coding.{thing_coded, IsTermFit, IsShiftFit};
     ghost use Rattle.interned.specs.Coded.{IsSized, IsRowAt};
@@ -143,6 +147,15 @@ impl InternedRows {
         self.region.row(RowId(row))
     }
 
+    /// A row of any kind, as it was made. It names earlier rows.
+    pub fn row(&self, row: u64) -> Row<'_>
+        requires { IsSome (rows_mean self.now row) }
+        ensures meaning { rows_mean self.now row ≡ row_meaning (rows_mean self.now) result }
+        ensures earlier { All (λ k. k < row) (row_names result) }
+    {
+        coded_row(self.words(row))
+    }
+
     /// The size of a substitution.
     fn held_size(&self, id: SubId) -> HeldSize
         requires { IsSubst (rows_mean self.now id.0) }
@@ -209,11 +222,17 @@ impl Maker for InternedRows {
 
 impl Reader for InternedRows {
     fn term(&self, id: TermId) -> TermRow<'_> {
-        term_row(self.words(id.0))
+        let Row::Term(row) = self.row(id.0) else {
+            unreachable!();
+        };
+        row
     }
 
     fn subst(&self, id: SubId) -> SubRow {
-        sub_row(self.words(id.0))
+        let Row::Subst(row) = self.row(id.0) else {
+            unreachable!();
+        };
+        row
     }
 
     fn size(&self, id: SubId) -> SubSize {
@@ -225,6 +244,9 @@ impl Reader for InternedRows {
     }
 
     fn context(&self, id: CtxId) -> CtxRow {
-        ctx_row(self.words(id.0))
+        let Row::Context(row) = self.row(id.0) else {
+            unreachable!();
+        };
+        row
     }
 }
