@@ -117,16 +117,16 @@ nameless e = record { names = codes "_" ∷ []; type = e }
 abbrev pub binders : List Tele → List (Binder Word)
 binders = map (λ x. record { names = x.names; type = x.type.term })
 
--- As a motive, a lambda over the built-in `nat` is opened at its first variable. It has one.
-abbrev pub opened : List Word → Means Word Tree → Means Word Tree
-opened [] inner G = inner G
-opened (x ∷ xs) inner G = over lam xs nat inner (Variable x nat ∷ G)
+-- As a motive, a lambda over the built-in `nat` is opened at its first variable.
+abbrev pub opened : List Word → Means Word Tree → Means Word Tree → Means Word Tree
+opened [] inner whole = whole
+opened (x ∷ xs) inner whole = λ G. over lam xs nat inner (Variable x nat ∷ G)
 
 abbrev pub motive_of : List Tele → Reading → Means Word Tree
-motive_of [] body G = body.term G
-motive_of (x ∷ xs) body G =
-    if x.type.is_nat G then opened x.names (under lam (binders xs) body.term) G
-    else applied_to_variable (under lam (binders (x ∷ xs)) body.term) G
+motive_of [] body = body.motive
+motive_of (x ∷ xs) body = λ G.
+    let whole = applied_to_variable (under lam (binders (x ∷ xs)) body.term) in
+    if x.type.is_nat G then opened x.names (under lam (binders xs) body.term) whole G else whole G
 
 -- `\ teles -> body`
 abbrev pub lambda : List Tele → Reading → Reading

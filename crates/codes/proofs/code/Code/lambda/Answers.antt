@@ -1,0 +1,11 @@
+use Rattle.std.proofs.Common.{◌≡◌, ap, ◌∙◌, map}
+use Rattle.translation.specs.Forms.{under}
+use Rattle.translation.specs.Terms.{lam}
+use Rattle.codes.specs.Codes.{meaning, binder}
+use Rattle.codes.proofs.Rows.{meaning_of-Lambda}
+use Rattle.codes.proofs.code.Code.lambda.Goals as goal
+
+pub returns : goal.returns
+returns c =
+    meaning_of-Lambda c.args.span c.args.binders c.in_ok-body.body
+    ∙ ap (λ x. under lam (map binder c.args.binders.items) (meaning x)) c.in_ok-body.ensures.ok

@@ -1,0 +1,11 @@
+use Rattle.std.proofs.Common.{◌≡◌, ap, ◌∙◌, map}
+use Rattle.translation.specs.Forms.{under}
+use Rattle.translation.specs.Terms.{sig}
+use Rattle.codes.specs.Codes.{meaning, binder}
+use Rattle.codes.proofs.Rows.{meaning_of-Sigma}
+use Rattle.codes.proofs.code.Code.sigma.Goals as goal
+
+pub returns : goal.returns
+returns c =
+    meaning_of-Sigma c.args.span c.args.binders c.in_ok-body.body
+    ∙ ap (λ x. under sig (map binder c.args.binders.items) (meaning x)) c.in_ok-body.ensures.ok

@@ -1,0 +1,358 @@
+//! Codes by their forms.
+
+ghost use Rattle.std.specs.Prelude.{◌≡◌, [], ◌∷◌, IfOk, map, replicate};
+ghost use Rattle.translation.specs.Forms.{
+  after,
+  application,
+  composition,
+  define,
+  defined,
+  fill as filling,
+  glue_of_terms,
+  glue_of_types,
+  one,
+  path_type,
+  project,
+  transport as transported,
+  tuple as tupled,
+  under,
+  under_names,
+  unglued,
+};
+ghost use Rattle.translation.specs.Terms.{innermost, lam, nat, pi, sig, suc};
+ghost use Rattle.translation.specs.Translated.{done};
+ghost use Rattle.codes.specs.Codes.{
+  at_name,
+  at_variable,
+  binder,
+  binder_of,
+  definition,
+  definitions,
+  element,
+  line_side,
+  meaning,
+  pair_side,
+  recursion,
+  term_side,
+};
+
+use crate::code::{Binder, Code, CodeDef, Element, LineSide, Opened, PairSide, Side};
+use layout_lexer::Span;
+use std::alloc::{AllocError, Global};
+use syntax::Projections;
+
+impl Code {
+    /// `let locals in body`
+    pub fn let_in(
+        alloc: Global,
+        span: Span,
+        locals: Vec<CodeDef>,
+        body: Code,
+    ) -> Result<Code, AllocError>
+        ensures { IfOk result (λ c. meaning c ≡ after (definitions locals.items) (meaning body)) }
+    {
+        let body = Box::new(alloc, body)?;
+        Ok(Code::Let { span, locals, body })
+    }
+
+    /// `suc argument`
+    pub fn suc(alloc: Global, span: Span, argument: Code) -> Result<Code, AllocError>
+        ensures { IfOk result (λ c. meaning c ≡ one suc (meaning argument)) }
+    {
+        let argument = Box::new(alloc, argument)?;
+        Ok(Code::Suc { span, argument })
+    }
+
+    /// `natrec motive base step argument`
+    pub fn natrec(
+        alloc: Global,
+        span: Span,
+        motive: Opened,
+        base: Code,
+        step: Code,
+        argument: Code,
+    ) -> Result<Code, AllocError>
+        ensures { IfOk result (λ c.
+            meaning c ≡ recursion (at_variable motive) (meaning base) (meaning step) (meaning argument)) }
+    {
+        let motive = Box::new(alloc, motive)?;
+        let base = Box::new(alloc, base)?;
+        let step = Box::new(alloc, step)?;
+        let argument = Box::new(alloc, argument)?;
+        Ok(Code::NatRec {
+            span,
+            motive,
+            base,
+            step,
+            argument,
+        })
+    }
+
+    /// `binders -> body`
+    pub fn pi(
+        alloc: Global,
+        span: Span,
+        binders: Vec<Binder>,
+        body: Code,
+    ) -> Result<Code, AllocError>
+        ensures { IfOk result (λ c.
+            meaning c ≡ under pi (map binder binders.items) (meaning body)) }
+    {
+        let body = Box::new(alloc, body)?;
+        Ok(Code::Pi {
+            span,
+            binders,
+            body,
+        })
+    }
+
+    /// `binders * body`
+    pub fn sigma(
+        alloc: Global,
+        span: Span,
+        binders: Vec<Binder>,
+        body: Code,
+    ) -> Result<Code, AllocError>
+        ensures { IfOk result (λ c.
+            meaning c ≡ under sig (map binder binders.items) (meaning body)) }
+    {
+        let body = Box::new(alloc, body)?;
+        Ok(Code::Sigma {
+            span,
+            binders,
+            body,
+        })
+    }
+
+    /// `\ binders -> body`; over no binders, the body
+    pub fn lambda(
+        alloc: Global,
+        span: Span,
+        binders: Vec<Binder>,
+        body: Code,
+    ) -> Result<Code, AllocError>
+        ensures { IfOk result (λ c.
+            meaning c ≡ under lam (map binder binders.items) (meaning body)) }
+    {
+        if binders.is_empty() {
+            return Ok(body);
+        }
+        let body = Box::new(alloc, body)?;
+        Ok(Code::Lambda {
+            span,
+            binders,
+            body,
+        })
+    }
+
+    /// `body` under so many names of the interval; under none, the body
+    pub fn path_lambda(
+        alloc: Global,
+        span: Span,
+        names: usize,
+        body: Code,
+    ) -> Result<Code, AllocError>
+        ensures { IfOk result (λ c. meaning c ≡ under_names (replicate names 0) (meaning body)) }
+    {
+        if names == 0 {
+            return Ok(body);
+        }
+        let body = Box::new(alloc, body)?;
+        Ok(Code::PathLambda { span, names, body })
+    }
+
+    /// `head elements`; of no elements, the head
+    pub fn apply(
+        alloc: Global,
+        span: Span,
+        head: Code,
+        elements: Vec<Element>,
+    ) -> Result<Code, AllocError>
+        ensures { IfOk result (λ c.
+            meaning c ≡ application (meaning head) (map element elements.items)) }
+    {
+        if elements.is_empty() {
+            return Ok(head);
+        }
+        let head = Box::new(alloc, head)?;
+        Ok(Code::Apply {
+            span,
+            head,
+            elements,
+        })
+    }
+
+    /// `pair projections`
+    pub fn project(
+        alloc: Global,
+        span: Span,
+        pair: Code,
+        projections: Projections,
+    ) -> Result<Code, AllocError>
+        ensures { IfOk result (λ c. meaning c ≡ one (λ t. project t projections) (meaning pair)) }
+    {
+        let pair = Box::new(alloc, pair)?;
+        Ok(Code::Project {
+            span,
+            pair,
+            projections,
+        })
+    }
+
+    /// `( components )`, which nest to the right
+    pub fn tuple(span: Span, components: Vec<Code>) -> Code
+        ensures { meaning result ≡ tupled (map meaning components.items) }
+    {
+        Code::Tuple { span, components }
+    }
+
+    /// `PathP line left right`
+    pub fn path_type(
+        alloc: Global,
+        span: Span,
+        line: Opened,
+        left: Code,
+        right: Code,
+    ) -> Result<Code, AllocError>
+        ensures { IfOk result (λ c.
+            meaning c ≡ path_type (at_name line) (meaning left) (meaning right)) }
+    {
+        let line = Box::new(alloc, line)?;
+        let left = Box::new(alloc, left)?;
+        let right = Box::new(alloc, right)?;
+        Ok(Code::PathP {
+            span,
+            line,
+            left,
+            right,
+        })
+    }
+
+    /// `comp line base sides`
+    pub fn comp(
+        alloc: Global,
+        span: Span,
+        line: Opened,
+        base: Code,
+        sides: Vec<LineSide>,
+    ) -> Result<Code, AllocError>
+        ensures { IfOk result (λ c.
+            meaning c ≡ composition (at_name line) (meaning base) (map line_side sides.items)) }
+    {
+        let line = Box::new(alloc, line)?;
+        let base = Box::new(alloc, base)?;
+        Ok(Code::Comp {
+            span,
+            line,
+            base,
+            sides,
+        })
+    }
+
+    /// `fill line base sides`
+    pub fn fill(
+        alloc: Global,
+        span: Span,
+        line: Opened,
+        base: Code,
+        sides: Vec<LineSide>,
+    ) -> Result<Code, AllocError>
+        ensures { IfOk result (λ c.
+            meaning c ≡ filling (at_name line) (meaning base) (map line_side sides.items)) }
+    {
+        let line = Box::new(alloc, line)?;
+        let base = Box::new(alloc, base)?;
+        Ok(Code::Fill {
+            span,
+            line,
+            base,
+            sides,
+        })
+    }
+
+    /// `transport line base`
+    pub fn transport(
+        alloc: Global,
+        span: Span,
+        line: Opened,
+        base: Code,
+    ) -> Result<Code, AllocError>
+        ensures { IfOk result (λ c. meaning c ≡ transported (at_name line) (meaning base)) }
+    {
+        let line = Box::new(alloc, line)?;
+        let base = Box::new(alloc, base)?;
+        Ok(Code::Transport { span, line, base })
+    }
+
+    /// `Glue base sides`
+    pub fn glue_type(
+        alloc: Global,
+        span: Span,
+        base: Code,
+        sides: Vec<PairSide>,
+    ) -> Result<Code, AllocError>
+        ensures { IfOk result (λ c.
+            meaning c ≡ glue_of_types (meaning base) (map pair_side sides.items)) }
+    {
+        let base = Box::new(alloc, base)?;
+        Ok(Code::GlueType { span, base, sides })
+    }
+
+    /// `glue base sides`
+    pub fn glue_term(
+        alloc: Global,
+        span: Span,
+        base: Code,
+        sides: Vec<Side>,
+    ) -> Result<Code, AllocError>
+        ensures { IfOk result (λ c.
+            meaning c ≡ glue_of_terms (meaning base) (map term_side sides.items)) }
+    {
+        let base = Box::new(alloc, base)?;
+        Ok(Code::GlueTerm { span, base, sides })
+    }
+
+    /// `unglue base sides`
+    pub fn unglue(
+        alloc: Global,
+        span: Span,
+        base: Code,
+        sides: Vec<PairSide>,
+    ) -> Result<Code, AllocError>
+        ensures { IfOk result (λ c.
+            meaning c ≡ unglued (meaning base) (map pair_side sides.items)) }
+    {
+        let base = Box::new(alloc, base)?;
+        Ok(Code::Unglue { span, base, sides })
+    }
+
+    /// `suc` without an argument: `\(x : nat) -> suc x`
+    pub fn successor(alloc: Global, span: Span) -> Result<Code, AllocError>
+        ensures { IfOk result (λ c. meaning c ≡ under lam
+            (binder_of 1 (λ G. done nat) ∷ []) (one suc (λ G. done innermost))) }
+    {
+        let mut binders = Vec::new(alloc);
+        binders.push(Binder {
+            names: 1,
+            ty: Code::Nat { span },
+        })?;
+        let argument = Code::Bound { span, index: 0 };
+        Code::lambda(alloc, span, binders, Code::suc(alloc, span, argument)?)
+    }
+}
+
+impl CodeDef {
+    /// The definition of this number.
+    pub fn new(name: Span, number: u32, binders: Vec<Binder>, ty: Code, body: Code) -> CodeDef
+        ensures { definition result ≡ define number
+            (defined (map binder binders.items) (meaning ty) (λ G. done G) (meaning body)) }
+    {
+        CodeDef {
+            name,
+            number,
+            binders,
+            ty,
+            body,
+        }
+    }
+}
