@@ -1,0 +1,9 @@
+pub mod Agreeing
+pub mod Moving
+pub mod Binders
+pub mod Kept
+pub mod Blocks
+pub mod Lists
+pub mod Starting
+pub mod Lookups
+pub mod Unbinding

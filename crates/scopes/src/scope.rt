@@ -1,0 +1,63 @@
+//! What a text may name of other modules.
+
+ghost use Rattle.std.specs.Prelude.{◌≡◌, [], ◌∷◌, ◌++◌, OnOk, OnErr};
+
+use layout_lexer::Text;
+use std::alloc::{AllocError, Global};
+use std::marker::Model;
+
+/// A name with the number of the definition that it stands for.
+#[derive(Drop)]
+pub struct ScopeName {
+    pub name: Text,
+    pub def: u32,
+}
+
+/// Names in scope, the newest last.
+#[derive(Drop)]
+pub struct ScopeNames {
+    items: Vec<ScopeName>,
+}
+
+impl Model for ScopeNames {
+    ghost use Rattle.std.specs.Prelude.{List};
+    ghost use Rattle.scopes.specs.declared.scope.ScopeName.{ScopeName};
+
+    ghost Value = { List ScopeName };
+
+    ghost view = { λ a. a.items.items };
+}
+
+impl ScopeNames {
+    /// No names, which takes no memory.
+    pub fn new(alloc: Global) -> ScopeNames
+        ensures { result ≡ [] }
+    {
+        ScopeNames {
+            items: Vec::new(alloc),
+        }
+    }
+
+    /// Appends a name, which hides an older one.
+    pub fn push(&mut self, name: ScopeName) -> Result<(), AllocError>
+        ensures ok { OnOk result (self.new ≡ self.old ++ name ∷ []) }
+        ensures err { OnErr result (self.new ≡ self.old) }
+    {
+        self.items.push(name)?;
+        Ok(())
+    }
+
+    /// The names, the newest last.
+    pub fn as_slice(&self) -> &[ScopeName]
+        ensures { result.now ≡ self.now }
+    {
+        &self.items
+    }
+}
+
+/// What a text may name: definitions of other modules. `next` is the number of the next definition.
+#[derive(Drop)]
+pub struct Scope {
+    pub names: ScopeNames,
+    pub next: u32,
+}
