@@ -21,6 +21,7 @@ ghost use Rattle.translation.specs.Forms.{
 };
 ghost use Rattle.translation.specs.Terms.{innermost, lam, nat, pi, sig, suc};
 ghost use Rattle.translation.specs.Translated.{done};
+ghost use Rattle.codes.specs.declared.code.CodeDef.{out-CodeDef};
 ghost use Rattle.codes.specs.Codes.{
   at_name,
   at_variable,
@@ -344,8 +345,10 @@ impl Code {
 impl CodeDef {
     /// The definition of this number.
     pub fn new(name: Span, number: u32, binders: Vec<Binder>, ty: Code, body: Code) -> CodeDef
-        ensures { definition result ≡ define number
+        ensures means { definition result ≡ define number
             (defined (map binder binders.items) (meaning ty) (λ G. done G) (meaning body)) }
+        ensures named { (out-CodeDef result).name ≡ name }
+        ensures numbered { (out-CodeDef result).number ≡ number }
     {
         CodeDef {
             name,
