@@ -1,10 +1,9 @@
 -- What a closure opens to: what it means, what it names and what it weighs.
-use Rattle.std.proofs.Common.{◌≡◌, ℕ, zero, suc, ◌+◌, ◌≤◌, List, [], ◌∷◌, length, length-append, refl, sym, ◌∙◌, ap, subst, arith, Option, Some, None}
+use Rattle.std.proofs.Common.{◌≡◌, ℕ, suc, ◌+◌, ◌≤◌, List, [], ◌∷◌, length, length-append, refl, sym, ◌∙◌, ap, subst, arith, Option, Some, None}
 use Rattle.std.specs.Prelude.{option_and_then}
 use Rattle.std.specs.List.{All}
 use Rattle.std.proofs.lemmas.List.Elements.{All-nil, All-cons, All-weaker}
 use Rattle.trees.specs.declared.op.Op.{Op}
-use Rattle.trees.specs.declared.op.Op.TheVariants as op
 use Rattle.trees.specs.Operators.{binds_of}
 use Rattle.trees.specs.Trees.{Tree, Subst, Var, Make, trees_of, apply}
 use Rattle.trees.specs.Things.{Thing, ATree, ASubst, AContext, Meanings, both, consed, over_kids, meanings, only_trees, made, instance_of}

@@ -5,3 +5,4 @@ pub mod NodeLaws
 pub mod LookLaws
 pub mod HeadLaws
 pub mod SubstLaws
+pub mod ChainLaws

@@ -3,3 +3,5 @@ pub mod Shown
 pub mod Closures
 pub mod Weights
 pub mod Substs
+pub mod Notes
+pub mod Chains

@@ -56,6 +56,11 @@ impl Environments {
         }
     }
 
+    /// The allocator that the nodes keep.
+    pub(crate) fn alloc(&self) -> Global {
+        *self.nodes.allocator()
+    }
+
     /// The number of nodes.
     pub fn len(&self) -> usize
         ensures { result ≡ length (lists self.now) }

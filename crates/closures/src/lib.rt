@@ -17,9 +17,11 @@
 //! ```
 #![tactic(auto)]
 
+mod chains;
 mod closure;
 mod environments;
 mod heads;
+mod notes;
 mod substs;
 #[cfg(test)]
 mod tests;

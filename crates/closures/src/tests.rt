@@ -273,6 +273,40 @@ fn long_chains_open_in_the_time_of_their_rows(rt: HostRuntime) -> Result<(), Fai
     Ok(())
 }
 
+#[test]
+fn doubled_chains_over_variables_open_in_the_time_of_their_rows(
+    rt: HostRuntime,
+) -> Result<(), Fail> {
+    // 5: pushes the instance of a variable that is that variable
+    let table = [
+        shift(0),
+        var(0),
+        shift(1),
+        instance(1, 0),
+        push(2, 1),
+        push(2, 3),
+    ];
+    let mut rows = filled(&rt, rt.alloc(), &table)?;
+    // the variable 0, under substitutions that each are the one before twice over, and under ones
+    // that each push the tree before, which is an instance by the one before it
+    let (mut twice, mut within, mut tree) = (4, 5, 1);
+    for at in 0..64u8 {
+        let then = Row::Subst(SubRow::Then(SubId(twice), SubId(twice)));
+        twice = add(&rt, &mut rows, &then)?;
+        let instance = Row::Term(TermRow::Instance(TermId(tree), SubId(within)));
+        tree = add(&rt, &mut rows, &instance)?;
+        let push = Row::Subst(SubRow::Push(SubId(2), TermId(tree)));
+        within = add(&rt, &mut rows, &push)?;
+        let whole = Row::Term(TermRow::Instance(TermId(1), SubId(twice)));
+        let whole = add(&rt, &mut rows, &whole)?;
+        for row in [whole, tree] {
+            let (index, _) = variable_at(&rt, rt.alloc(), &rows, row)?;
+            assert_eq!(rt; index, 0, "at {at}");
+        }
+    }
+    Ok(())
+}
+
 /// What stands outermost in a substitution: a shift, or a push of the variable of an index.
 #[derive(Clone, Copy, Debug, PartialEq, Eq)]
 enum Outermost {

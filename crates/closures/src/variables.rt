@@ -11,6 +11,7 @@ ghost use Rattle.closures.specs.Closures.{IsPassed, IsNear, raised_list, variabl
 ghost use Rattle.closures.specs.Closures.{entered_meaning, found_meaning};
 ghost use Rattle.closures.specs.Weights.{row_weight, weight_of, entered_weight, FoundLess};
 
+use crate::chains::chained;
 use crate::closure::Closure;
 use crate::environments::{Delayed, Environment, Environments};
 use rows::{Reader, SubId, SubRow, SubSize};
@@ -154,7 +155,13 @@ fn pass<R: Reader>(
             let rest = environments.deeper(node.rest, lift);
             Ok(Entered::Past(index + u128::from(by), rest))
         }
-        Delayed::Under(subst) => Ok(enter(rows, environments, subst, index, lift, node.rest)?),
+        Delayed::Under(subst) => {
+            let alloc = environments.alloc();
+            if let Some(past) = chained(alloc, rows, subst, index, lift)? {
+                return Ok(Entered::Past(past, environments.deeper(node.rest, lift)));
+            }
+            Ok(enter(rows, environments, subst, index, lift, node.rest)?)
+        }
     }
 }
 

@@ -1,6 +1,6 @@
-use Rattle.std.proofs.Common.{◌+◌, ◌∙◌, ap, subst, arith}
+use Rattle.std.proofs.Common.{◌+◌, ◌∙◌, sym, ap, subst, arith}
 use Rattle.closures.specs.Shown.{lists}
-use Rattle.closures.specs.Environments.{deepest, listed}
+use Rattle.closures.specs.Environments.{deepest, deepened, listed}
 use Rattle.closures.specs.Closures.{IsDelayed, variable_meaning}
 use Rattle.closures.specs.Weights.{delayed_weight}
 use Rattle.closures.proofs.EnvironmentLaws.{AtNode}
@@ -73,3 +73,28 @@ returns-in_ok-enter-in-Under-clause-weight g c =
     let s = ap delayed_weight c.in-Under.is in
     let less = c.in_ok-enter-in-Under.ensures.weight in
     omega arith
+
+pub chained-requires-clause-subst : goal.chained-requires-clause-subst
+chained-requires-clause-subst g c =
+    let f = g.R.Rows.means c.args.rows.now in
+    subst (IsDelayed f) c.in-Under.is (is_delayed-node (here g (goal.at.chained-requires-clause-subst g c).After-node-node) c.args.lift f deepest c.requires.stands)
+
+pub deeper-requires-in-Some-clause-shallow : goal.deeper-requires-in-Some-clause-shallow
+deeper-requires-in-Some-clause-shallow g c =
+    (stands-node (here g (goal.at.deeper-requires-in-Some-clause-shallow g c).After-node-node) c.args.lift (g.R.Rows.means c.args.rows.now) deepest c.requires.stands).shallow
+
+pub returns-in-Some-clause-meaning : goal.returns-in-Some-clause-meaning
+returns-in-Some-clause-meaning g c =
+    let f = g.R.Rows.means c.args.rows.now in
+    let past = rw c.in-Some.is at c.in_ok-past-in-Under.ensures.meaning in
+    ap (λ ws. variable_meaning f ws c.in-Some.past) c.deeper-in-Some.ensures.list
+    ∙ sym (past (deepened c.args.lift (listed (lists c.args.environments.now) c.node-node.result.rest)))
+    ∙ meaning-under (here g (goal.at.returns-in-Some-clause-meaning g c).After-node-node) c.args.lift f c.in-Under.subst c.args.index c.in-Under.is
+
+pub returns-in-Some-clause-stands : goal.returns-in-Some-clause-stands
+returns-in-Some-clause-stands g c =
+    stands-past_node (here g (goal.at.returns-in-Some-clause-stands g c).After-node-node) c.args.lift c.deeper-in-Some.result c.deeper-in-Some.ensures.list c.deeper-in-Some.ensures.within (g.R.Rows.means c.args.rows.now)
+
+pub returns-in-Some-clause-weight : goal.returns-in-Some-clause-weight
+returns-in-Some-clause-weight g c =
+    weight-past (here g (goal.at.returns-in-Some-clause-weight g c).After-node-node) c.args.lift c.deeper-in-Some.result c.deeper-in-Some.ensures.list
