@@ -38,7 +38,7 @@ const MOST_NODE_WORDS: u64 = 32;
 /// after out of memory too.
 #[derive(Drop)]
 pub struct Book {
-    alloc: Global,
+    pub(crate) alloc: Global,
     pub(crate) rows: InternedRows,
     pub(crate) nodes: Region,
 }

@@ -15,6 +15,7 @@ mod book_rows;
 mod few;
 mod kernel;
 mod node_words;
+mod questions;
 
 pub use few::{Few, RuleUse};
 pub use kernel::{Book, Mark, NodeId, NodeRow};

@@ -10,7 +10,7 @@ ghost use Rattle.book.specs.Shown.{book_concludes, Extends};
 ghost use Rattle.book.specs.Tests.{Follows};
 
 use crate::{Book, Few, NodeId, RuleUse};
-use rows::{Maker, Row, SubId, SubRow, TermId};
+use rows::{CtxId, Maker, Row, SubId, SubRow, TermId};
 use std::alloc::AllocError;
 use std::process::Abort;
 use std::test::Fail;
@@ -150,6 +150,40 @@ fn trees_are_the_same_by_what_they_mean(rt: HostRuntime) -> Result<(), Fail> {
     let nat = book.make(Op::Nat, &[])?;
     assert!(rt; book.same_tree(TermId(zero), TermId(zero))?);
     assert!(rt; !book.same_tree(TermId(zero), TermId(nat))?);
+    Ok(())
+}
+
+#[test]
+fn what_holds_is_read_with_the_faces_of_the_context(rt: HostRuntime) -> Result<(), Fail> {
+    let mut book = Book::new(rt.alloc())?;
+    let nil = book.ctx_nil()?;
+    let one = book.ctx_name(nil)?;
+    let two = book.ctx_name(one)?;
+    let (i, j) = (book.var(1)?, book.var(0)?);
+    let (left, right) = (book.make(Op::Eq0, &[i])?, book.make(Op::Eq1, &[j])?);
+    let face = book.make(Op::Join, &[left, right])?;
+    let turned = book.make(Op::Join, &[right, left])?;
+    let ctx = book.ctx_face(two, face)?;
+    assert!(rt; book.holds(CtxId(ctx), TermId(turned))?);
+    assert!(rt; !book.holds(CtxId(ctx), TermId(left))?);
+    assert!(rt; book.face_of(CtxId(ctx), TermId(i))?.is_none());
+    Ok(())
+}
+
+#[test]
+fn forms_are_compared_where_the_faces_of_the_context_are_true(rt: HostRuntime) -> Result<(), Fail> {
+    let mut book = Book::new(rt.alloc())?;
+    let nil = book.ctx_nil()?;
+    let name = book.ctx_name(nil)?;
+    let i = book.var(0)?;
+    let not = book.make(Op::Neg, &[i])?;
+    let both = book.make(Op::Min, &[i, not])?;
+    let end = book.make(Op::I0, &[])?;
+    let face = book.make(Op::Eq0, &[i])?;
+    let ctx = book.ctx_face(name, face)?;
+    assert!(rt; !book.same_form(CtxId(name), TermId(both), TermId(end))?);
+    assert!(rt; book.same_form(CtxId(ctx), TermId(both), TermId(end))?);
+    assert!(rt; book.form_of(CtxId(ctx), TermId(face))?.is_none());
     Ok(())
 }
 
