@@ -172,117 +172,123 @@ leads-rest : (root : Subtree) (P : Subtree → Type 0) (t : Task) (ts : List Tas
 leads-rest root P (task.Read s) ts leads = leads
 leads-rest root P (task.Combine s sh) ts leads = leads.1
 
-module _ (f : Meanings) (names : List Bool) (root : Subtree) (begin : List (List Waiting)) (before : Table) (known : List (List Waiting)) (table : Table) where
-  -- the task that comes next
-  pub walk_next : (items rest : List Task) (t u : Task) → items ≡ rest ++ t ∷ [] → t ≡ u → Walks f names root begin before known table (reverse items) → Walks f names root begin before known table (u ∷ reverse rest)
-  walk_next items rest t u popped is w =
-      let order : reverse items ≡ u ∷ reverse rest = ap reverse popped ∙ reverse-append rest (t ∷ []) ∙ ap (λ x. x ∷ reverse rest) is in
-      subst (Walks f names root begin before known table) order w
-
-  pub steps_next : (at : Subtree → Tree) (items rest : List Task) (t u : Task) → items ≡ rest ++ t ∷ [] → t ≡ u → all_steps at (reverse items) ≡ all_steps at (u ∷ reverse rest)
-  steps_next at items rest t u popped is = ap (all_steps at) (ap reverse popped ∙ reverse-append rest (t ∷ []) ∙ ap (λ x. x ∷ reverse rest) is)
-
-  -- a subtree that was read
-  pub walk_skips : (s : Subtree) (ts : List Task) → IsSome (table s) → Walks f names root begin before known table (task.Read s ∷ ts) → Walks f names root begin before known table ts
-  walk_skips s ts there w = record {
-    grows = w.grows;
-    keeps = w.keeps;
-    stand = w.stand.1;
-    leads = leads-weaker root (λ q. IsSome (table q) ⊎ (q ≡ s)) (λ q. IsSome (table q)) ts (λ q. ⊎_elim (λ p. p) (λ e. subst (λ z. IsSome (table z)) (sym e) there)) w.leads;
-    remembers = w.remembers;
-  }
-
-  -- a subtree that was opened
-  pub walk_asks : (new : List (List Waiting)) (s : Subtree) (sh : Shape) (ts : List Task) (items : List Task) → Grows known new → IsShapeOf f known new names s sh → reverse items ≡ asked s sh ts → Walks f names root begin before known table (task.Read s ∷ ts) → Walks f names root begin before new table (reverse items)
-  walk_asks new s sh ts items g o order w =
-      let here = w.stand.0 in
-      let n = length ts in
-      subst (Walks f names root begin before new table) (sym order) record {
-        grows = grows-grows begin known new w.grows g;
-        keeps = w.keeps;
-        stand = reads_stand f new names (suc n) (shape_kids sh) (task.Combine s sh ∷ ts) (omega arith)
-            (kid_depths names s.depth n sh here.0 o.fits)
-            (o.stands n here.1) (
-              (here.0, closure-grows f known new n s.closure g here.1, o.stands n here.1, o.tree_is ∙ sym (tree-grows f known new n s g here.1), o.fits),
-              tasks-grow f known new names ts g w.stand.1,
-            );
-        leads = leads-reads root (λ q. IsSome (table q)) (shape_kids sh) (task.Combine s sh ∷ ts)
-            (λ Q weaker all. (all, leads-weaker root (λ q. IsSome (table q) ⊎ (q ≡ s)) (λ q. Q q ⊎ (q ≡ s)) ts (λ q. ⊎_elim (λ p. inl (weaker q p)) (λ e. inr e)) w.leads));
-        remembers = remembers-grow f known new names table g w.remembers;
-      }
-
-  steps_fall : (new : List (List Waiting)) (s : Subtree) (sh : Shape) (ts : List Task) → Grows known new → IsShapeOf f known new names s sh → Walks f names root begin before known table (task.Read s ∷ ts) → all_steps (tree_at f new) (asked s sh ts) < all_steps (tree_at f known) (task.Read s ∷ ts)
-  steps_fall new s sh ts g o w =
-      let asks = steps_asked (tree_at f new) s (s.depth + length names) sh ts in
-      let rest = steps-grow f known new names ts g w.stand.1 in
-      let same : size (shape_tree (tree_at f new) (s.depth + length names) sh) ≡ size (tree_at f known s) = ap size o.tree_is in
-      omega arith
-
-  -- one more reading
-  pub walk_adds : (nodes : List (List Waiting)) (new : Table) (t : Task) (ts : List Task) (found : Option Reading) → Grows known nodes → IsAdded (task_at t) found table new → ((G : Context) → indices G ≡ names → Reads (with_names (task_at t).depth G) (tree_at f known (task_at t)) found) → length ts ≤ deepest → Walks f names root begin before known table (t ∷ ts) → Walks f names root begin before nodes new ts
-  walk_adds nodes new t ts found g added reads few w =
-      let s = task_at t in
-      let closure = task_closure f known names (length ts) t w.stand.0 in
-      let all : Remembers f known names new = record {
-        kept = λ q there. kept q (new q) refl there;
-        right = λ G same q other is.
-            ⊎_elim
-            (λ old. w.remembers.right G same q other old)
-            (λ both.
-            subst (λ z. Reads (with_names z.depth G) (tree_at f known z) other) (sym both.0)
-            (subst (Reads (with_names s.depth G) (tree_at f known s)) (sym both.1) (reads G same)))
-            (added.each q other is);
-      } in
-      record {
-        grows = grows-grows begin known nodes w.grows g;
-        keeps = λ q there. added.keeps q (w.keeps q there);
-        stand = tasks-grow f known nodes names ts g w.stand.1;
-        leads = leads-weaker root (λ q. IsSome (table q) ⊎ (q ≡ s)) (λ q. IsSome (new q)) ts
-            (λ q. ⊎_elim (λ p. added.keeps q p) (λ e. ap is_some (ap new e ∙ added.here)))
-            (leads-rest root (λ q. IsSome (table q)) t ts w.leads);
-        remembers = remembers-grow f known nodes names new g all;
-      }
-    where
-      kept : (q : Subtree) (o : Option (Option Reading)) → new q ≡ o → IsSome o → IsClosure f known deepest q.closure
-      kept q None is there = cc
-      kept q (Some other) is there =
-          ⊎_elim
-          (λ old. w.remembers.kept q (ap is_some old))
-          (λ both. subst (λ z. IsClosure f known deepest z.closure) (sym both.0) (closure-deeper f known (length ts) deepest (task_at t).closure few (task_closure f known names (length ts) t w.stand.0)))
-          (added.each q other is)
-
-  -- what the readings of kids were put together to
-  pub walk_combined : (s : Subtree) (sh : Shape) (ts : List Task) (found : Option Reading) (count : ℕ) → count ≡ s.depth + length names → IsCombined table count sh found → Walks f names root begin before known table (task.Combine s sh ∷ ts) → (G : Context) → indices G ≡ names → Reads (with_names s.depth G) (tree_at f known s) found
-  walk_combined s sh ts found count counts combined w G same =
-      subst (λ t. Reads (with_names s.depth G) t found) (ap (λ n. shape_tree (tree_at f known) n sh) counts ∙ w.stand.0.3)
-      (combined G s.depth (tree_at f known) (counts ∙ ap (λ ns. s.depth + length ns) (sym same)) (subst (λ ns. ShapeFits ns s.depth sh) (sym same) w.stand.0.4) (w.remembers.right G same))
-
--- a walk ends
-
 size_pos : (t : Tree) → 1 ≤ size t
 size_pos (Var k) = omega arith
 size_pos (Make op kids) = omega arith
 
-module _ (f : Meanings) (names : List Bool) (root : Subtree) (begin : List (List Waiting)) (before : Table) (known : List (List Waiting)) (table : Table) (items rest : List Task) (t : Task) (s : Subtree)
-    (popped : items ≡ rest ++ t ∷ []) (is : t ≡ task.Read s) where
-  pub steps_skip : suc (all_steps (tree_at f known) (reverse rest)) ≤ all_steps (tree_at f known) (reverse items)
+-- the task that comes next in such a state, and those after it
+pub record Next (f : Meanings) (names : List Bool) (root : Subtree) (begin : List (List Waiting)) (before : Table) (known : List (List Waiting)) (table : Table) (items rest : List Task) (t : Task) : Type 0 where
+  pub order : reverse items ≡ t ∷ reverse rest
+  pub walks : Walks f names root begin before known table (t ∷ reverse rest)
+
+pub walk_next : {f : Meanings} {names : List Bool} {root : Subtree} {begin : List (List Waiting)} {before : Table} {known : List (List Waiting)} {table : Table} {items rest : List Task} {last t : Task} → items ≡ rest ++ last ∷ [] → last ≡ t → Walks f names root begin before known table (reverse items) → Next f names root begin before known table items rest t
+walk_next {f = f} {names = names} {root = root} {begin = begin} {before = before} {known = known} {table = table} {items = items} {rest = rest} {last = last} {t = t} popped is w =
+    let order : reverse items ≡ t ∷ reverse rest = ap reverse popped ∙ reverse-append rest (last ∷ []) ∙ ap (λ x. x ∷ reverse rest) is in
+    record { order = order; walks = subst (Walks f names root begin before known table) order w }
+
+module _ {f : Meanings} {names : List Bool} {root : Subtree} {begin : List (List Waiting)} {before : Table} {known : List (List Waiting)} {table : Table} {items rest : List Task} {s : Subtree} (next : Next f names root begin before known table items rest (task.Read s)) where
+  abbrev Left : List (List Waiting) → List Task → Type 0
+  Left new ts = suc (all_steps (tree_at f new) ts) ≤ all_steps (tree_at f known) (reverse items)
+
+  -- the subtree was read
+  pub walk_skips : IsSome (table s) → Walks f names root begin before known table (reverse rest)
+  walk_skips there =
+      let w = next.walks in
+      record {
+        grows = w.grows;
+        keeps = w.keeps;
+        stand = w.stand.1;
+        leads = leads-weaker root (λ q. IsSome (table q) ⊎ (q ≡ s)) (λ q. IsSome (table q)) (reverse rest) (λ q. ⊎_elim (λ p. p) (λ e. subst (λ z. IsSome (table z)) (sym e) there)) w.leads;
+        remembers = w.remembers;
+      }
+
+  pub steps_skip : Left known (reverse rest)
   steps_skip =
-      subst (λ n. suc (all_steps (tree_at f known) (reverse rest)) ≤ n) (sym (steps_next f names root begin before known table (tree_at f known) items rest t (task.Read s) popped is))
+      subst (λ n. suc (all_steps (tree_at f known) (reverse rest)) ≤ n) (sym (ap (all_steps (tree_at f known)) next.order))
       (one_less (size (tree_at f known s)) (all_steps (tree_at f known) (reverse rest)) (size_pos (tree_at f known s)))
     where
       one_less : (n m : ℕ) → 1 ≤ n → suc m ≤ 2 * n + m
       one_less n m le = omega arith
 
   -- nodes that are added change no step
-  pub steps_add : (new : List (List Waiting)) → Grows known new → Walks f names root begin before known table (task.Read s ∷ reverse rest) → suc (all_steps (tree_at f new) (reverse rest)) ≤ all_steps (tree_at f known) (reverse items)
-  steps_add new g w =
-      subst (λ n. suc n ≤ all_steps (tree_at f known) (reverse items)) (sym (steps-grow f known new names (reverse rest) g w.stand.1)) steps_skip
+  pub steps_add : (new : List (List Waiting)) → Grows known new → Left new (reverse rest)
+  steps_add new g =
+      subst (λ n. suc n ≤ all_steps (tree_at f known) (reverse items)) (sym (steps-grow f known new names (reverse rest) g next.walks.stand.1)) steps_skip
 
-  pub steps_ask : (new : List (List Waiting)) (sh : Shape) (later : List Task) → Grows known new → IsShapeOf f known new names s sh → reverse later ≡ asked s sh (reverse rest) → Walks f names root begin before known table (task.Read s ∷ reverse rest) → suc (all_steps (tree_at f new) (reverse later)) ≤ all_steps (tree_at f known) (reverse items)
-  steps_ask new sh later g o order w =
-      subst (λ ts. suc (all_steps (tree_at f new) ts) ≤ all_steps (tree_at f known) (reverse items)) (sym order)
-      (subst (λ n. suc (all_steps (tree_at f new) (asked s sh (reverse rest))) ≤ n) (sym (steps_next f names root begin before known table (tree_at f known) items rest t (task.Read s) popped is))
-      (steps_fall f names root begin before known table new s sh (reverse rest) g o w))
+  -- the subtree was opened
+  module _ {new : List (List Waiting)} {sh : Shape} (later : List Task) (g : Grows known new) (o : IsShapeOf f known new names s sh) (order : reverse later ≡ asked s sh (reverse rest)) where
+    pub walk_asks : Walks f names root begin before new table (reverse later)
+    walk_asks =
+        let w = next.walks in
+        let here = w.stand.0 in
+        let ts = reverse rest in
+        let n = length ts in
+        subst (Walks f names root begin before new table) (sym order) record {
+          grows = grows-grows begin known new w.grows g;
+          keeps = w.keeps;
+          stand = reads_stand f new names (suc n) (shape_kids sh) (task.Combine s sh ∷ ts) (omega arith)
+              (kid_depths names s.depth n sh here.0 o.fits)
+              (o.stands n here.1) (
+                (here.0, closure-grows f known new n s.closure g here.1, o.stands n here.1, o.tree_is ∙ sym (tree-grows f known new n s g here.1), o.fits),
+                tasks-grow f known new names ts g w.stand.1,
+              );
+          leads = leads-reads root (λ q. IsSome (table q)) (shape_kids sh) (task.Combine s sh ∷ ts)
+              (λ Q weaker all. (all, leads-weaker root (λ q. IsSome (table q) ⊎ (q ≡ s)) (λ q. Q q ⊎ (q ≡ s)) ts (λ q. ⊎_elim (λ p. inl (weaker q p)) (λ e. inr e)) w.leads));
+          remembers = remembers-grow f known new names table g w.remembers;
+        }
+
+    pub steps_ask : Left new (reverse later)
+    steps_ask =
+        subst (Left new) (sym order)
+        (subst (λ n. suc (all_steps (tree_at f new) (asked s sh (reverse rest))) ≤ n) (sym (ap (all_steps (tree_at f known)) next.order))
+        (let asks = steps_asked (tree_at f new) s (s.depth + length names) sh (reverse rest) in
+        let later_steps = steps-grow f known new names (reverse rest) g next.walks.stand.1 in
+        let same : size (shape_tree (tree_at f new) (s.depth + length names) sh) ≡ size (tree_at f known s) = ap size o.tree_is in
+        omega arith))
+
+-- one more reading
+pub walk_adds : {f : Meanings} {names : List Bool} {root : Subtree} {begin : List (List Waiting)} {before : Table} {known : List (List Waiting)} {table : Table} {items rest : List Task} {t : Task} {found : Option Reading} {nodes : List (List Waiting)} {new : Table} → Next f names root begin before known table items rest t → Grows known nodes → IsAdded (task_at t) found table new → ((G : Context) → indices G ≡ names → Reads (with_names (task_at t).depth G) (tree_at f known (task_at t)) found) → length (reverse rest) ≤ deepest → Walks f names root begin before nodes new (reverse rest)
+walk_adds {f = f} {names = names} {root = root} {begin = begin} {before = before} {known = known} {table = table} {rest = rest} {t = t} {found = found} {nodes = nodes} {new = new} next g added reads few =
+    let w = next.walks in
+    let ts = reverse rest in
+    let s = task_at t in
+    let closure = task_closure f known names (length ts) t w.stand.0 in
+    let all : Remembers f known names new = record {
+      kept = λ q there. kept q (new q) refl there;
+      right = λ G same q other is.
+          ⊎_elim
+          (λ old. w.remembers.right G same q other old)
+          (λ both.
+          subst (λ z. Reads (with_names z.depth G) (tree_at f known z) other) (sym both.0)
+          (subst (Reads (with_names s.depth G) (tree_at f known s)) (sym both.1) (reads G same)))
+          (added.each q other is);
+    } in
+    record {
+      grows = grows-grows begin known nodes w.grows g;
+      keeps = λ q there. added.keeps q (w.keeps q there);
+      stand = tasks-grow f known nodes names ts g w.stand.1;
+      leads = leads-weaker root (λ q. IsSome (table q) ⊎ (q ≡ s)) (λ q. IsSome (new q)) ts
+          (λ q. ⊎_elim (λ p. added.keeps q p) (λ e. ap is_some (ap new e ∙ added.here)))
+          (leads-rest root (λ q. IsSome (table q)) t ts w.leads);
+      remembers = remembers-grow f known nodes names new g all;
+    }
+  where
+    kept : (q : Subtree) (o : Option (Option Reading)) → new q ≡ o → IsSome o → IsClosure f known deepest q.closure
+    kept q None is there = cc
+    kept q (Some other) is there =
+        ⊎_elim
+        (λ old. next.walks.remembers.kept q (ap is_some old))
+        (λ both. subst (λ z. IsClosure f known deepest z.closure) (sym both.0) (closure-deeper f known (length (reverse rest)) deepest (task_at t).closure few (task_closure f known names (length (reverse rest)) t next.walks.stand.0)))
+        (added.each q other is)
+
+-- what the readings of kids were put together to
+pub walk_combined : {f : Meanings} {names : List Bool} {root : Subtree} {begin : List (List Waiting)} {before : Table} {known : List (List Waiting)} {table : Table} {items rest : List Task} {s : Subtree} {sh : Shape} (found : Option Reading) → Next f names root begin before known table items rest (task.Combine s sh) → IsCombined table (s.depth + length names) sh found → (G : Context) → indices G ≡ names → Reads (with_names s.depth G) (tree_at f known s) found
+walk_combined {f = f} {names = names} {known = known} {s = s} {sh = sh} found next combined G same =
+    let w = next.walks in
+    subst (λ t. Reads (with_names s.depth G) t found) w.stand.0.3
+    (combined G s.depth (tree_at f known) (ap (λ ns. s.depth + length ns) (sym same)) (subst (λ ns. ShapeFits ns s.depth sh) (sym same) w.stand.0.4) (w.remembers.right G same))
+
+-- a walk ends
 
 pub none_left : {X : Type 0} (xs : List X) (len : ℕ) → len ≡ length xs → len ≡ 0 → reverse xs ≡ []
 none_left [] len is none = refl
