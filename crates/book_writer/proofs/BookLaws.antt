@@ -76,31 +76,11 @@ root-list all (k ∷ ks) Js e =
 
 plain-root : (all : List Meaning) (r : Row) → IsPlain r → root_of all r ≡ []
 plain-root all (row.Root k) plain = absurd plain
-plain-root all (row.Header v) plain = refl
-plain-root all (row.Var k) plain = refl
-plain-root all (row.Make op kids) plain = refl
-plain-root all (row.Instance t d) plain = refl
-plain-root all (row.Shift n) plain = refl
-plain-root all (row.Push d t) plain = refl
-plain-root all row.CtxNil plain = refl
-plain-root all (row.CtxVar G A) plain = refl
-plain-root all (row.CtxName G) plain = refl
-plain-root all (row.CtxFace G p) plain = refl
-plain-root all (row.Node rule parts premises) plain = refl
+plain-root all _ plain = refl
 
 plain-fit : (r : Row) → IsPlain r → IsSpellable r
 plain-fit (row.Root k) plain = tt
-plain-fit (row.Header v) plain = plain
-plain-fit (row.Var k) plain = plain
-plain-fit (row.Make op kids) plain = plain
-plain-fit (row.Instance t d) plain = plain
-plain-fit (row.Shift n) plain = plain
-plain-fit (row.Push d t) plain = plain
-plain-fit row.CtxNil plain = plain
-plain-fit (row.CtxVar G A) plain = plain
-plain-fit (row.CtxName G) plain = plain
-plain-fit (row.CtxFace G p) plain = plain
-plain-fit (row.Node rule parts premises) plain = plain
+plain-fit _ plain = plain
 
 no-roots : (all : List Meaning) (rows : List Row) → All IsPlain rows → roots_of all rows ≡ []
 no-roots all [] plain = refl

@@ -31,15 +31,7 @@ thing-right [] some r x e = absurd (omega arith)
 thing-right (m ∷ all) some (row.Header v) x e = cc
 thing-right (m ∷ all) some (row.Node rule parts premises) x e = cc
 thing-right (m ∷ all) some (row.Root node) x e = cc
-thing-right (m ∷ all) some (row.Var k) x e = (x, e, refl)
-thing-right (m ∷ all) some (row.Make op kids) x e = (x, e, refl)
-thing-right (m ∷ all) some (row.Instance t d) x e = (x, e, refl)
-thing-right (m ∷ all) some (row.Shift n) x e = (x, e, refl)
-thing-right (m ∷ all) some (row.Push d t) x e = (x, e, refl)
-thing-right (m ∷ all) some row.CtxNil x e = (x, e, refl)
-thing-right (m ∷ all) some (row.CtxVar G A) x e = (x, e, refl)
-thing-right (m ∷ all) some (row.CtxName G) x e = (x, e, refl)
-thing-right (m ∷ all) some (row.CtxFace G p) x e = (x, e, refl)
+thing-right (m ∷ all) some _ x e = (x, e, refl)
 
 -- rows that are right after these, and what they mean
 pub record Added (all : List Meaning) (rows : List Row) : Type 0 where

@@ -98,17 +98,7 @@ stands (b ∷ before) (row.Root k) m right fit few = node-earlier (b ∷ before)
 
 version-same : (r : Row) → IsSpellable r → version_after newest r ≡ newest
 version-same (row.Header v) fit = fit
-version-same (row.Var k) fit = refl
-version-same (row.Make op kids) fit = refl
-version-same (row.Instance t d) fit = refl
-version-same (row.Shift n) fit = refl
-version-same (row.Push d t) fit = refl
-version-same row.CtxNil fit = refl
-version-same (row.CtxVar G A) fit = refl
-version-same (row.CtxName G) fit = refl
-version-same (row.CtxFace G p) fit = refl
-version-same (row.Node rule parts premises) fit = refl
-version-same (row.Root k) fit = refl
+version-same _ fit = refl
 
 spell-rows : (before : List Meaning) (rows : List Row) (all : List Meaning) → RightRows before rows all → All IsSpellable rows → length before + length rows ≤ 2 ^ 64 → SpellRows newest (length before) (map spelled rows) rows
 spell-rows before [] all right fit few = tt

@@ -20,7 +20,7 @@ use Rattle.book.specs.Right.{IsUse}
 use Rattle.book_writer.specs.Chains.{IsPlain, Spelt}
 use Rattle.book_writer.specs.Spelling.{file_of, chain_at, place, node_row, node_rows, node_place, count_nodes}
 use Rattle.book_writer.proofs.RowLaws.{Placed, placed-kept, all-placed}
-use Rattle.book_writer.proofs.RowsLaws.{right-length, flat_map-append}
+use Rattle.book_writer.proofs.RowsLaws.{right-length, flat_map-append, up-to}
 
 -- Node k, and what it concludes: an instance of its rule over earlier nodes. Or there is none, where
 -- it is left out.
@@ -116,46 +116,28 @@ module _ (f : Meanings) (g : ℕ → Option Judgement) (known : List Spelt) (nod
       let all : List Meaning = h.all ++ Concludes J ∷ [] in
       let same : file_of known ++ rows_for (done ++ words ∷ []) ≡ before ++ node_row known at node ∷ [] = rows-push done words ∙ ap (λ rs. before ++ rs) rows_are in
       let here : conclusion_at all (at (length done)) ≡ Some J = ap (conclusion_at all) (next-place done rest words split ∙ sym count) ∙ conclusion-next h.all J in
+      let P : ℕ → Type 0 = λ k. (K : Judgement) → g k ≡ Some K → conclusion_at all (at k) ≡ Some K in
+      let old : (k : ℕ) → k < length done → P k = λ k lt K e. conclusion-kept h.all (Concludes J ∷ []) (at k) K (h.conclusions k K lt e) in
       record {
         all = all;
         right = subst (λ rs. RightRows [] rs all) (sym same) (rows_whole [] before (node_row known at node ∷ []) h.all all h.right (Concludes J, node-right h.all some node J (map (place known) node.parts) (map at node.premises) right, refl));
         fit = subst (All IsPlain) (sym same) (All-append IsPlain before (node_row known at node ∷ []) h.fit (All-cons IsPlain (node_row known at node) [] tt (All-nil IsPlain)));
         things = λ k x e. placed-kept h.all (Concludes J ∷ []) (chain_at known k) x (h.things k x e);
-        conclusions = λ k K lt e. from all here (λ i L lt is. conclusion-kept h.all (Concludes J ∷ []) (at i) L (h.conclusions i L lt is)) k K (omega (arith, length-append done (words ∷ []))) e;
+        conclusions = λ k K lt e. up-to P (length done) old (λ L is. here ∙ sym t.concludes ∙ is) k (omega (arith, length-append done (words ∷ []))) K e;
       }
-    where
-      from : (all : List Meaning) → conclusion_at all (at (length done)) ≡ Some t.judgement → ((k : ℕ) (K : Judgement) → k < length done → g k ≡ Some K → conclusion_at all (at k) ≡ Some K) → (k : ℕ) (K : Judgement) → k ≤ length done → g k ≡ Some K → conclusion_at all (at k) ≡ Some K
-      from all new old k K le e = by_place (nat_lt k (length done)) refl
-        where
-          by_place : (b : Bool) → nat_lt k (length done) ≡ b → conclusion_at all (at k) ≡ Some K
-          by_place true is = old k K (ltb-true k (length done) is) e
-          by_place false is =
-              let last : k ≡ length done = omega (arith, ltb-false k (length done) is) in
-              let there : g k ≡ Some t.judgement = ap g last ∙ t.concludes in
-              let same : Some t.judgement ≡ Some K = sym there ∙ e in
-              ap (λ i. conclusion_at all (at i)) last ∙ new ∙ same
 
   node-gone : (done : List (List ℕ)) (words : List ℕ) → NodesSpelt done → node_coded words ≡ None → g (length done) ≡ None → NodesSpelt (done ++ words ∷ [])
   node-gone done words h none gone =
       let before : List Row = file_of known ++ rows_for done in
       let same : file_of known ++ rows_for (done ++ words ∷ []) ≡ before = rows-push done words ∙ rw none (append-nil before) in
+      let P : ℕ → Type 0 = λ k. (K : Judgement) → g k ≡ Some K → conclusion_at h.all (at k) ≡ Some K in
       record {
         all = h.all;
         right = subst (λ rs. RightRows [] rs h.all) (sym same) h.right;
         fit = subst (All IsPlain) (sym same) h.fit;
         things = h.things;
-        conclusions = λ k K lt e. h.conclusions k K (earlier k K (omega (arith, length-append done (words ∷ []))) e) e;
+        conclusions = λ k K lt e. up-to P (length done) (λ j low L is. h.conclusions j L low is) (λ L is. cc) k (omega (arith, length-append done (words ∷ []))) K e;
       }
-    where
-      earlier : (k : ℕ) (K : Judgement) → k ≤ length done → g k ≡ Some K → k < length done
-      earlier k K le e = by_place (nat_lt k (length done)) refl
-        where
-          by_place : (b : Bool) → nat_lt k (length done) ≡ b → k < length done
-          by_place true is = ltb-true k (length done) is
-          by_place false is =
-              let last : k ≡ length done = omega (arith, ltb-false k (length done) is) in
-              let there : g k ≡ None = ap g last ∙ gone in
-              cc
 
   one-node : (done rest : List (List ℕ)) (words : List ℕ) → nodes ≡ done ++ words ∷ rest → NodesSpelt done → NodeLive f g (length done) words → NodesSpelt (done ++ words ∷ [])
   one-node done rest words split h (inl t) = node-there done rest words split h t

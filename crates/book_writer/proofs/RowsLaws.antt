@@ -55,6 +55,14 @@ pub flat_map-append : {X Y : Type 0} (f : X → List Y) (xs ys : List X) → fla
 flat_map-append f [] ys = refl
 flat_map-append f (x ∷ xs) ys = ap (λ zs. f x ++ zs) (flat_map-append f xs ys) ∙ sym (append_assoc (f x) (flat_map f xs) (flat_map f ys))
 
+-- what holds before n, and there, holds up to it
+pub up-to : (P : ℕ → Type 0) (n : ℕ) → ((k : ℕ) → k < n → P k) → P n → (k : ℕ) → k ≤ n → P k
+up-to P n before here k le = from (nat_lt k n) refl
+  where
+    from : (b : Bool) → nat_lt k n ≡ b → P k
+    from true is = before k (ltb-true k n is)
+    from false is = let last : n ≡ k = omega (arith, ltb-false k n is) in subst P last here
+
 -- rows of a book, and what they became
 pub record RowsSpelt (f : Meanings) (known : List Spelt) : Type 0 where
   pub all : List Meaning
@@ -90,47 +98,32 @@ one-there f known h words t =
     let are : (k : ℕ) (x : Thing) → below n f k ≡ Some x → Placed h.all (chain_at known k) x = λ k x e. let b = below-is n f k x e in h.placed k x b.0 b.1 in
     let r : RowSpelt h.all s t.thing = row-spelt h.all some known (below n f) are count words t.thing t.means t.fits in
     let all : List Meaning = h.all ++ r.added.more in
-    let old : (k : ℕ) (x : Thing) → k < n → f k ≡ Some x → Placed all (chain_at (known ++ s ∷ []) k) x = λ k x lt e. subst (λ (c : Chain). Placed all c x) (sym (chain-before known s k lt)) (placed-kept h.all r.added.more (chain_at known k) x (h.placed k x lt e)) in
+    let P : ℕ → Type 0 = λ k. (x : Thing) → f k ≡ Some x → Placed all (chain_at (known ++ s ∷ []) k) x in
+    let old : (k : ℕ) → k < n → P k = λ k lt x e. subst (λ (c : Chain). Placed all c x) (sym (chain-before known s k lt)) (placed-kept h.all r.added.more (chain_at known k) x (h.placed k x lt e)) in
+    let new : P n = λ x e.
+    let is = t.is in
+    let same : t.thing ≡ x = cc in
+    subst (λ (c : Chain). Placed all c x) (sym (chain-next known s)) (subst (Placed all s.chain) same r.placed)
+    in
     record {
       all = all;
       right = subst (λ rows. RightRows [] rows all) (sym (file-push known s)) (rows_whole [] (file_of known) s.rows h.all all h.right r.added.right);
       fit = subst (All IsPlain) (sym (file-push known s)) (All-append IsPlain (file_of known) s.rows h.fit r.added.fit);
-      placed = λ k x lt e. from all s r.placed old k x (omega (arith, length-append known (s ∷ []))) e;
+      placed = λ k x lt e. up-to P n old new k (omega (arith, length-append known (s ∷ []))) x e;
     }
-  where
-    from : (all : List Meaning) (s : Spelt) → Placed all s.chain t.thing → ((k : ℕ) (x : Thing) → k < length known → f k ≡ Some x → Placed all (chain_at (known ++ s ∷ []) k) x) → (k : ℕ) (x : Thing) → k ≤ length known → f k ≡ Some x → Placed all (chain_at (known ++ s ∷ []) k) x
-    from all s new old k x le e = by_place (nat_lt k (length known)) refl
-      where
-        by_place : (b : Bool) → nat_lt k (length known) ≡ b → Placed all (chain_at (known ++ s ∷ []) k) x
-        by_place true is = old k x (ltb-true k (length known) is) e
-        by_place false is =
-            let last : k ≡ length known = omega (arith, ltb-false k (length known) is) in
-            let here = t.is in
-            let same : t.thing ≡ x = let at : f k ≡ Some t.thing = ap f last ∙ here in cc in
-            subst (λ (c : Chain). Placed all c x) (sym (ap (chain_at (known ++ s ∷ [])) last ∙ chain-next known s)) (subst (Placed all s.chain) same new)
 
 one-gone : (f : Meanings) (known : List Spelt) → RowsSpelt f known → f (length known) ≡ None → RowsSpelt f (known ++ spelt_row known [] ∷ [])
 one-gone f known h none =
     let s : Spelt = spelt_row known [] in
     let same : file_of (known ++ s ∷ []) ≡ file_of known = file-push known s ∙ append-nil (file_of known) in
+    let P : ℕ → Type 0 = λ k. (x : Thing) → f k ≡ Some x → Placed h.all (chain_at (known ++ s ∷ []) k) x in
+    let old : (k : ℕ) → k < length known → P k = λ k lt x e. subst (λ (c : Chain). Placed h.all c x) (sym (chain-before known s k lt)) (h.placed k x lt e) in
     record {
       all = h.all;
       right = subst (λ rows. RightRows [] rows h.all) (sym same) h.right;
       fit = subst (All IsPlain) (sym same) h.fit;
-      placed = λ k x lt e.
-          let first : k < length known = earlier k x (omega (arith, length-append known (s ∷ []))) e in
-          subst (λ (c : Chain). Placed h.all c x) (sym (chain-before known s k first)) (h.placed k x first e);
+      placed = λ k x lt e. up-to P (length known) old (λ y is. cc) k (omega (arith, length-append known (s ∷ []))) x e;
     }
-  where
-    earlier : (k : ℕ) (x : Thing) → k ≤ length known → f k ≡ Some x → k < length known
-    earlier k x le e = by_place (nat_lt k (length known)) refl
-      where
-        by_place : (b : Bool) → nat_lt k (length known) ≡ b → k < length known
-        by_place true is = ltb-true k (length known) is
-        by_place false is =
-            let last : k ≡ length known = omega (arith, ltb-false k (length known) is) in
-            let there : f k ≡ None = ap f last ∙ none in
-            cc
 
 one-spelt : (f : Meanings) (known : List Spelt) → RowsSpelt f known → (words : List ℕ) → IsLive f (length known) words → RowsSpelt f (known ++ spelt_row known words ∷ [])
 one-spelt f known h words (inl there) = one-there f known h words there
