@@ -11,3 +11,6 @@ mod formula;
 
 pub use code::{Binder, Code, CodeDef, Element, LineSide, Opened, PairSide, Side};
 pub use formula::{Equation, Formula};
+
+#[cfg(test)]
+mod tests;

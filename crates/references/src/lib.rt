@@ -7,3 +7,6 @@ mod formulas;
 mod names;
 
 pub use names::References;
+
+#[cfg(test)]
+mod tests;

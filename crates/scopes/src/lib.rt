@@ -11,3 +11,6 @@ mod scope;
 pub use names::{Binding, Found};
 pub use place::Place;
 pub use scope::{Scope, ScopeName, ScopeNames};
+
+#[cfg(test)]
+mod tests;
