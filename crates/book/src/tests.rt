@@ -166,7 +166,6 @@ fn what_holds_is_read_with_the_faces_of_the_context(rt: HostRuntime) -> Result<(
     let ctx = book.ctx_face(two, face)?;
     assert!(rt; book.holds(CtxId(ctx), TermId(turned))?);
     assert!(rt; !book.holds(CtxId(ctx), TermId(left))?);
-    assert!(rt; book.face_of(CtxId(ctx), TermId(i))?.is_none());
     Ok(())
 }
 
@@ -183,7 +182,18 @@ fn forms_are_compared_where_the_faces_of_the_context_are_true(rt: HostRuntime) -
     let ctx = book.ctx_face(name, face)?;
     assert!(rt; !book.same_form(CtxId(name), TermId(both), TermId(end))?);
     assert!(rt; book.same_form(CtxId(ctx), TermId(both), TermId(end))?);
-    assert!(rt; book.form_of(CtxId(ctx), TermId(face))?.is_none());
+    Ok(())
+}
+
+#[test]
+fn a_tree_is_read_as_a_form_or_as_a_face(rt: HostRuntime) -> Result<(), Fail> {
+    let mut book = Book::new(rt.alloc())?;
+    let nil = book.ctx_nil()?;
+    let ctx = CtxId(book.ctx_name(nil)?);
+    let i = book.var(0)?;
+    let face = TermId(book.make(Op::Eq0, &[i])?);
+    assert!(rt; book.face_of(ctx, face)?.is_some());
+    assert!(rt; book.form_of(ctx, face)?.is_none());
     Ok(())
 }
 
