@@ -154,46 +154,16 @@ fn trees_are_the_same_by_what_they_mean(rt: HostRuntime) -> Result<(), Fail> {
 }
 
 #[test]
-fn what_holds_is_read_with_the_faces_of_the_context(rt: HostRuntime) -> Result<(), Fail> {
-    let mut book = Book::new(rt.alloc())?;
-    let nil = book.ctx_nil()?;
-    let one = book.ctx_name(nil)?;
-    let two = book.ctx_name(one)?;
-    let (i, j) = (book.var(1)?, book.var(0)?);
-    let (left, right) = (book.make(Op::Eq0, &[i])?, book.make(Op::Eq1, &[j])?);
-    let face = book.make(Op::Join, &[left, right])?;
-    let turned = book.make(Op::Join, &[right, left])?;
-    let ctx = book.ctx_face(two, face)?;
-    assert!(rt; book.holds(CtxId(ctx), TermId(turned))?);
-    assert!(rt; !book.holds(CtxId(ctx), TermId(left))?);
-    Ok(())
-}
-
-#[test]
-fn forms_are_compared_where_the_faces_of_the_context_are_true(rt: HostRuntime) -> Result<(), Fail> {
-    let mut book = Book::new(rt.alloc())?;
-    let nil = book.ctx_nil()?;
-    let name = book.ctx_name(nil)?;
-    let i = book.var(0)?;
-    let not = book.make(Op::Neg, &[i])?;
-    let both = book.make(Op::Min, &[i, not])?;
-    let end = book.make(Op::I0, &[])?;
-    let face = book.make(Op::Eq0, &[i])?;
-    let ctx = book.ctx_face(name, face)?;
-    assert!(rt; !book.same_form(CtxId(name), TermId(both), TermId(end))?);
-    assert!(rt; book.same_form(CtxId(ctx), TermId(both), TermId(end))?);
-    Ok(())
-}
-
-#[test]
-fn a_tree_is_read_as_a_form_or_as_a_face(rt: HostRuntime) -> Result<(), Fail> {
+fn faces_and_formulas_are_read_in_a_context(rt: HostRuntime) -> Result<(), Fail> {
     let mut book = Book::new(rt.alloc())?;
     let nil = book.ctx_nil()?;
     let ctx = CtxId(book.ctx_name(nil)?);
-    let i = book.var(0)?;
-    let face = TermId(book.make(Op::Eq0, &[i])?);
+    let name = TermId(book.var(0)?);
+    let face = TermId(book.make(Op::Eq0, &[name.0])?);
+    assert!(rt; book.form_of(ctx, name)?.is_some());
     assert!(rt; book.face_of(ctx, face)?.is_some());
-    assert!(rt; book.form_of(ctx, face)?.is_none());
+    assert!(rt; book.same_form(ctx, name, name)?);
+    assert!(rt; !book.holds(ctx, face)?);
     Ok(())
 }
 
