@@ -10,7 +10,7 @@ ghost use Rattle.book.specs.Shown.{book_concludes, Extends};
 ghost use Rattle.book.specs.Tests.{Follows};
 
 use crate::{Book, Few, NodeId, RuleUse};
-use rows::{CtxId, Maker, Row, SubId, SubRow, TermId};
+use rows::{Maker, Row, SubId, SubRow, TermId};
 use std::alloc::AllocError;
 use std::process::Abort;
 use std::test::Fail;
@@ -150,20 +150,6 @@ fn trees_are_the_same_by_what_they_mean(rt: HostRuntime) -> Result<(), Fail> {
     let nat = book.make(Op::Nat, &[])?;
     assert!(rt; book.same_tree(TermId(zero), TermId(zero))?);
     assert!(rt; !book.same_tree(TermId(zero), TermId(nat))?);
-    Ok(())
-}
-
-#[test]
-fn faces_and_formulas_are_read_in_a_context(rt: HostRuntime) -> Result<(), Fail> {
-    let mut book = Book::new(rt.alloc())?;
-    let nil = book.ctx_nil()?;
-    let ctx = CtxId(book.ctx_name(nil)?);
-    let name = TermId(book.var(0)?);
-    let face = TermId(book.make(Op::Eq0, &[name.0])?);
-    assert!(rt; book.form_of(ctx, name)?.is_some());
-    assert!(rt; book.face_of(ctx, face)?.is_some());
-    assert!(rt; book.same_form(ctx, name, name)?);
-    assert!(rt; !book.holds(ctx, face)?);
     Ok(())
 }
 
