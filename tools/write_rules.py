@@ -57,8 +57,12 @@ def field(name, items):
     line = f"    {name} = {listed(items)};"
     if len(line) <= WIDTH:
         return [line]
-    return [f"    {name} ="] + [f"      {'∷ ' if at else ''}{item}" for at, item in
-                                enumerate(items)] + ["      ∷ [];"]
+    return [f"    {name} =", *(f"  {one}" for one in item_lines(items)[:-1]), "      ∷ [];"]
+
+
+def item_lines(items):
+    """A list as lines, an item each."""
+    return [f"    {'∷ ' if at else ''}{item}" for at, item in enumerate(items)] + ["    ∷ []"]
 
 
 def table_line(name, rule, is_shared=False):
@@ -68,9 +72,19 @@ def table_line(name, rule, is_shared=False):
         wants = [f"    wants = {premises(rule)[0]} {' '.join(rule.parts)};"]
     sides = field("sides", [says(*one) for one in rule.sides])
     parts = f"λ {' '.join(rule.parts)}. " if rule.parts else ""
-    head, gives = f"  {name} = {parts}record {{", f"    gives = {says(*rule.gives)};"
-    line = f"{head} {' '.join(part.strip() for part in wants + sides + [gives])[:-1]} }}"
-    return [line] if len(line) <= WIDTH else [head, *wants, *sides, gives, "  }"]
+    head, gives = f"  {name} = {parts}record {{", conclusion(*rule.gives)
+    line = f"{head} {' '.join(part.strip() for part in wants + sides + gives)[:-1]} }}"
+    return [line] if len(line) <= WIDTH else [head, *wants, *sides, *gives, "  }"]
+
+
+def conclusion(form, places):
+    """The field of a conclusion, a place a line where one line is too long."""
+    line = f"    gives = {says(form, places)};"
+    if len(line) <= WIDTH:
+        return [line]
+    first, *others = [said(place, True) for place in places]
+    return [f"    gives = {form} {first}", *(f"      {other}" for other in others[:-1]),
+            f"      {others[-1]};"]
 
 
 def premises(rule):
@@ -88,15 +102,25 @@ def premises_lines(rule):
     kinds = {"Context": "context", "Subst": "subst", "Term": "tree"}
     takes = " → ".join(kinds[kind] for kind in rule.kinds())
     name = premises(rule)[0]
-    line = f"  {name} {' '.join(rule.parts)} = {listed([says(*want) for want in rule.wants])}"
+    head, wants = f"  {name} {' '.join(rule.parts)} =", [says(*want) for want in rule.wants]
+    line = f"{head} {listed(wants)}"
     return [f"  -- the premises of {rule.name}",
             f"  abbrev pub {name} : {takes} → List (JudgementOf L)",
-            line if len(line) <= WIDTH else line.replace(" = ", " =\n    ", 1), ""]
+            *([line] if len(line) <= WIDTH else [head, *item_lines(wants)]), ""]
 
 
 def comment(rule):
     first, *others = rule.text.splitlines()
-    return [f"  -- {first.strip()}"] + [f"  --   {line.strip()}" for line in others]
+    lines = [f"  -- {first.strip()}"] + [f"  --   {line.strip()}" for line in others]
+    return [part for line in lines for part in broken(line)]
+
+
+def broken(line):
+    """The line of a rule, with its conclusion on a line of its own where it is too long."""
+    if len(line) <= WIDTH:
+        return [line]
+    claims, given = line.rsplit(" | ", 1)
+    return [claims, f"  --   | {given}"]
 
 
 def applied(name):

@@ -1,7 +1,7 @@
 //! Which trees are variables, found without a walk through all that they are written by.
 //!
-//! A chain of substitutions and instances may name a row many times over, so that a walk through all
-//! of it takes long. Here each row is asked once, and what it answers is noted.
+//! A chain of substitutions and instances may name a row many times over, so that a walk through
+//! all of it takes long. Here each row is asked once, and what it answers is noted.
 
 ghost use Rattle.std.specs.Prelude.{◌≡◌, ◌≤◌, ◌+◌, ◌^◌, ◌∷◌, List, IfOk, OnOk, IfSome, reverse};
 ghost use Rattle.trees.specs.Things.{Meanings};

@@ -89,7 +89,8 @@ abbrev mutual
   meaning (Nat s) = λ G. done nat
   meaning (Zero s) = λ G. done zero
   meaning (Suc' s p c) = one suc (meaning c)
-  meaning (NatRec' s p m q a r b t n) = recursion (at_variable m) (meaning a) (meaning b) (meaning n)
+  meaning (NatRec' s p m q a r b t n) =
+      recursion (at_variable m) (meaning a) (meaning b) (meaning n)
   meaning (Pi' s shape bs p c) = under pi (binders bs) (meaning c)
   meaning (Sigma' s shape bs p c) = under sig (binders bs) (meaning c)
   meaning (Lambda' s shape bs p c) = under lam (binders bs) (meaning c)

@@ -74,7 +74,8 @@ impl Code {
         argument: Code,
     ) -> Result<Code, AllocError>
         ensures { IfOk result (λ c.
-            meaning c ≡ recursion (at_variable motive) (meaning base) (meaning step) (meaning argument)) }
+            meaning c ≡ recursion (at_variable motive) (meaning base) (meaning step)
+            (meaning argument)) }
     {
         let motive = Box::new(alloc, motive)?;
         let base = Box::new(alloc, base)?;

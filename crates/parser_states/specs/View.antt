@@ -1,9 +1,11 @@
 -- The parser's values as those of the machine.
-use Rattle.std.specs.Prelude.{ℕ, ◌≡◌, ◌-◌, List, [], ◌∷◌, Option, Some, None, Result, Ok, Err, map, reverse}
+use Rattle.std.specs.Prelude.{ℕ, ◌≡◌, ◌-◌, List, [], ◌∷◌, Option, Some, None, Result, Ok, Err, map}
+use Rattle.std.specs.Prelude.{reverse}
 use Rattle.layout_lexer.specs.declared.token.Token.{Token}
 use Rattle.syntax.specs.declared.exp.Exp.{Exp}
 use Rattle.syntax.specs.Tree.{Tree, Arrow, Let, PathLambda}
-use Rattle.syntax.specs.View.{formula_of, tree_of, exps_of, elements_of, teles_of, sides_of, defs_of, module_of}
+use Rattle.syntax.specs.View.{formula_of, tree_of, exps_of, elements_of, teles_of, sides_of}
+use Rattle.syntax.specs.View.{defs_of, module_of}
 use Rattle.productions.specs.Words as W
 use Rattle.productions.specs.Machine as M
 use Rattle.productions.specs.Grammar.{from, shallow}
@@ -103,7 +105,8 @@ held_of (HS.Head r s) = M.Whole (M.Head r s)
 held_of (HS.Other b) = slot_of b.value
 
 abbrev pub owner_of : Owner → M.Owner
-owner_of (O.Composing w s x y pl) = M.OfComposing (composing_of w) s (tree_of x) (tree_of y) (place_of pl)
+owner_of (O.Composing w s x y pl) =
+    M.OfComposing (composing_of w) s (tree_of x) (tree_of y) (place_of pl)
 owner_of (O.Gluing w s x pl) = M.OfGluing (gluing_of w) s (tree_of x) (place_of pl)
 
 abbrev pub given_of : Given → M.Top

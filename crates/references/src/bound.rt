@@ -38,8 +38,9 @@ impl<'a> References<'a> {
         number: u32,
     ) -> Result<(), AllocError>
         ensures { IfOk result (λ _. let w = word self.now.bytes.now name in
+            let is_twice = is_newer first (find place.old.names w) in
             place.new ≡ record (bound_to place.old w (a_definition number)) {
-              so_far = checked place.old.so_far (is_newer first (find place.old.names w)) name.start;
+              so_far = checked place.old.so_far is_twice name.start;
             }) }
     {
         let spelling = self.spelling(name);

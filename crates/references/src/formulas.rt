@@ -3,7 +3,8 @@
 ghost use Rattle.std.specs.Prelude.{◌≡◌, IfOk, map};
 ghost use Rattle.syntax.specs.View.{formula_of};
 ghost use Rattle.translation.specs.Forms.{all};
-ghost use Rattle.translation.specs.Texts.{equations as the_equations, formula as the_formula, name_at};
+ghost use Rattle.translation.specs.Texts.{equations as the_equations, formula as the_formula};
+ghost use Rattle.translation.specs.Texts.{name_at};
 ghost use Rattle.codes.specs.Codes.{equations as meant, formula as meaning};
 ghost use Rattle.references.specs.Spelt.{index_of};
 ghost use Rattle.scopes.specs.Steps.{Resolves};

@@ -905,7 +905,11 @@ module _ (L : Language) where
   -- the premises of natrec
   abbrev pub natrec_wants : context → tree → tree → tree → tree → List (JudgementOf L)
   natrec_wants G P a b n =
-      Ty (with_var G nat) P ∷ Tm G a (at P zero) ∷ Tm G b (motive_step P) ∷ Tm G n nat ∷ []
+      Ty (with_var G nat) P
+      ∷ Tm G a (at P zero)
+      ∷ Tm G b (motive_step P)
+      ∷ Tm G n nat
+      ∷ []
 
   abbrev pub nat_rule : (name : NatRule) → Over (kinds_of (Naturals name))
   -- nat.u | G | ctx G | G >> nat : U
@@ -960,12 +964,19 @@ module _ (L : Language) where
   -- the premises of sys.ty
   abbrev pub sys_ty_wants : context → tree → tree → tree → tree → List (JudgementOf L)
   sys_ty_wants G p q A B =
-      Ty (with_face G p) A ∷ Ty (with_face G q) B ∷ TyEq (with_face (with_face G p) q) A B ∷ []
+      Ty (with_face G p) A
+      ∷ Ty (with_face G q) B
+      ∷ TyEq (with_face (with_face G p) q) A B
+      ∷ []
 
   -- the premises of sys.tm
   abbrev pub sys_tm_wants : context → tree → tree → tree → tree → tree → List (JudgementOf L)
   sys_tm_wants G p q a b A =
-      Ty G A ∷ Tm (with_face G p) a A ∷ Tm (with_face G q) b A ∷ TmEq (with_face (with_face G p) q) a b A ∷ []
+      Ty G A
+      ∷ Tm (with_face G p) a A
+      ∷ Tm (with_face G q) b A
+      ∷ TmEq (with_face (with_face G p) q) a b A
+      ∷ []
 
   abbrev pub system_rule : (name : SystemRule) → Over (kinds_of (Systems name))
   -- sys.ty | G p q A B | G.p >> A; G.q >> B; G.p.q >> A = B
@@ -1028,7 +1039,11 @@ module _ (L : Language) where
   -- the premises of comp
   abbrev pub comp_wants : context → tree → tree → tree → tree → List (JudgementOf L)
   comp_wants G A p b a =
-      Ty (with_name G) A ∷ Tm (with_name (with_face G p)) b A ∷ Tm G a (at A i0) ∷ TmEq (with_face G p) a (at b i0) (at A i0) ∷ []
+      Ty (with_name G) A
+      ∷ Tm (with_name (with_face G p)) b A
+      ∷ Tm G a (at A i0)
+      ∷ TmEq (with_face G p) a (at b i0) (at A i0)
+      ∷ []
 
   abbrev pub comp_rule : (name : CompRule) → Over (kinds_of (Composition name))
   -- comp | G A p b a | G.I >> A; G.p.I >> b : A; G >> a : A{0}; G.p >> a = b{0} : A{0}
@@ -1135,7 +1150,10 @@ module _ (L : Language) where
         ∷ TmEq (with_face G p) a (at b i0) (at (glue_type A q T w) i0)
         ∷ [];
     sides = IsFace G p ∷ IsFace (with_name G) q ∷ [];
-    gives = TmEq G (comp (glue_type A q T w) p b a) (comp_glue A q T w p b a) (at (glue_type A q T w) i1);
+    gives = TmEq G
+        (comp (glue_type A q T w) p b a)
+        (comp_glue A q T w p b a)
+        (at (glue_type A q T w) i1);
   }
   -- comp.u | G p b a | G.p.I >> b : U; G >> a : U; G.p >> a = b{0} : U if IsFace(G, p)
   --   | G >> comp U p b a = comp_u p b a : U
@@ -1158,20 +1176,34 @@ module _ (L : Language) where
   -- the premises of glue.u
   abbrev pub glue_u_wants : context → tree → tree → tree → tree → List (JudgementOf L)
   glue_u_wants G A p T w =
-      Tm G A universe ∷ Tm (with_face G p) T universe ∷ Tm (with_face G p) w (equiv T A) ∷ []
+      Tm G A universe
+      ∷ Tm (with_face G p) T universe
+      ∷ Tm (with_face G p) w (equiv T A)
+      ∷ []
 
   -- the premises of glue
   abbrev pub glue_wants : context → tree → tree → tree → tree → tree → tree → List (JudgementOf L)
   glue_wants G A p T w c a =
-      Ty G A ∷ Ty (with_face G p) T ∷ Tm (with_face G p) w (equiv T A) ∷ Tm (with_face G p) c T ∷ Tm G a A ∷ TmEq (with_face G p) (app (fst w) c) a A ∷ []
+      Ty G A
+      ∷ Ty (with_face G p) T
+      ∷ Tm (with_face G p) w (equiv T A)
+      ∷ Tm (with_face G p) c T
+      ∷ Tm G a A
+      ∷ TmEq (with_face G p) (app (fst w) c) a A
+      ∷ []
 
   -- the premises of unglue
   abbrev pub unglue_wants : context → tree → tree → tree → tree → tree → List (JudgementOf L)
   unglue_wants G A p T w b =
-      Ty G A ∷ Ty (with_face G p) T ∷ Tm (with_face G p) w (equiv T A) ∷ Tm G b (glue_type A p T w) ∷ []
+      Ty G A
+      ∷ Ty (with_face G p) T
+      ∷ Tm (with_face G p) w (equiv T A)
+      ∷ Tm G b (glue_type A p T w)
+      ∷ []
 
   abbrev pub glue_rule : (name : GlueRule) → Over (kinds_of (Gluing name))
-  -- glue.ty | G A p T w | G >> A; G.p >> T; G.p >> w : equiv T A if IsFace(G, p) | G >> Glue A p T w
+  -- glue.ty | G A p T w | G >> A; G.p >> T; G.p >> w : equiv T A if IsFace(G, p)
+  --   | G >> Glue A p T w
   glue_rule GlueTy = λ G A p T w. record {
     wants = glue_ty_wants G A p T w;
     sides = IsFace G p ∷ [];
@@ -1197,7 +1229,8 @@ module _ (L : Language) where
     gives = TmEq (with_face G p) (glue_type A p T w) T universe;
   }
   -- glue.tycong | G A B p q T V w z | G >> A = B; G.p >> T = V; G.p >> w = z : equiv T A
-  --   if IsFace(G, p), IsFace(G, q), Holds(G.p, q), Holds(G.q, p) | G >> Glue A p T w = Glue B q V z
+  --   if IsFace(G, p), IsFace(G, q), Holds(G.p, q), Holds(G.q, p)
+  --   | G >> Glue A p T w = Glue B q V z
   glue_rule GlueTyCong = λ G A B p q T V w z. record {
     wants = TyEq G A B ∷ TyEq (with_face G p) T V ∷ TmEq (with_face G p) w z (equiv T A) ∷ [];
     sides = IsFace G p ∷ IsFace G q ∷ Holds (with_face G p) q ∷ Holds (with_face G q) p ∷ [];

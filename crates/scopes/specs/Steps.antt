@@ -1,6 +1,7 @@
 -- What a step of resolving does, said of the names in scope, of what a text means, and of what the
 -- code that is made means.
-use Rattle.std.specs.Prelude.{◌≡◌, ◌+◌, ◌<◌, ◌≤◌, ℕ, zero, suc, List, [], ◌∷◌, ◌++◌, map, length, Option, Some, Bool, false, not, nat_lt, if◌then◌else◌}
+use Rattle.std.specs.Prelude.{◌≡◌, ◌+◌, ◌<◌, ◌≤◌, ℕ, zero, suc, List, [], ◌∷◌, ◌++◌, map, length}
+use Rattle.std.specs.Prelude.{Option, Some, Bool, false, not, nat_lt, if◌then◌else◌}
 use Rattle.trees.specs.Trees.{Tree, Var}
 use Rattle.translation.specs.declared.fault.Cause.{Cause}
 use Rattle.translation.specs.declared.fault.Cause.TheVariants.{Twice}
@@ -58,8 +59,8 @@ abbrev pub count_from : ℕ → ℕ → List ℕ
 count_from zero k = []
 count_from (suc n) k = k ∷ count_from n (suc k)
 
--- What the text and the code mean is related by R, they hold the same definitions, numbered in order,
--- and the refusal that is named has moved on by that of the text.
+-- What the text and the code mean is related by R, they hold the same definitions, numbered in
+-- order, and the refusal that is named has moved on by that of the text.
 pub record Moves (old new : Progress) {A B : Type 0} (R : A → B → Type 0)
     (spelt : Translated Word A) (code : Translated ℕ B) : Type 0 where
   pub value : R spelt.value code.value
@@ -72,8 +73,8 @@ abbrev pub Same : {A : Type 0} → A → A → Type 0
 Same a b = b ≡ a
 
 -- in each scope where names agree
-pub record Moving (old : State) (new : Progress) {A : Type 0} (spelt : Means Word A) (code : Means ℕ A)
-    : Type 0 where
+pub record Moving (old : State) (new : Progress) {A : Type 0} (spelt : Means Word A)
+    (code : Means ℕ A) : Type 0 where
   pub moves : (G : Scope Word) (H : Scope ℕ) → Agree old G H
       → Moves old.so_far new Same (spelt G) (code H)
 
@@ -102,15 +103,16 @@ pub record Extends (old new : State) : Type 0 where
   pub names : new.names ≡ bound ++ old.names
   pub grows : old.so_far.next ≤ new.so_far.next
 
--- Binders were resolved, and their names are bound: what is resolved under them next is so under the
--- binders of the text and of the code alike.
+-- Binders were resolved, and their names are bound: what is resolved under them next is so under
+-- the binders of the text and of the code alike.
 pub record BindsOver (B : Type 0) (old new : State) (spelt : List (Binder Word))
     (code : List (Binder ℕ)) : Type 0 where
   pub moving : (make : Tree → B → B) (end : Progress) (f : Means Word B) (g : Means ℕ B)
       → Moving new end f g → Moving old end (under make spelt f) (under make code g)
 
 -- for binders of terms, and of a type with its body
-pub record Binds (old new : State) (spelt : List (Binder Word)) (code : List (Binder ℕ)) : Type 0 where
+pub record Binds (old new : State) (spelt : List (Binder Word)) (code : List (Binder ℕ)) :
+    Type 0 where
   pub extends : Extends old new
   pub terms : BindsOver Tree old new spelt code
   pub definitions : BindsOver (Tree × Tree) old new spelt code

@@ -1,6 +1,7 @@
 //! What is known at a place of a text.
 
-ghost use Rattle.std.specs.Prelude.{◌≡◌, ◌+◌, ◌-◌, ◌<◌, [], length, drop, reverse, map, Some, None, IfOk, OnErr, OnOk};
+ghost use Rattle.std.specs.Prelude.{◌≡◌, ◌+◌, ◌-◌, ◌<◌, [], length, drop, reverse, map, Some, None};
+ghost use Rattle.std.specs.Prelude.{IfOk, OnErr, OnOk};
 ghost use Rattle.translation.specs.Translated.{earlier};
 ghost use Rattle.scopes.specs.Finding.{find};
 ghost use Rattle.scopes.specs.Steps.{bound_to, named_of};

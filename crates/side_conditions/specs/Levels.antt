@@ -1,5 +1,6 @@
 -- Names by level: the outermost index of a context has level 0, and the innermost index is 0.
-use Rattle.std.specs.Prelude.{ℕ, zero, suc, Bool, true, false, List, [], ◌∷◌, length, slice_index_or}
+use Rattle.std.specs.Prelude.{ℕ, zero, suc, Bool, true, false, List, [], ◌∷◌, length}
+use Rattle.std.specs.Prelude.{slice_index_or}
 use Rattle.trees.specs.Judgements.{Context, Nil, WithVar, WithName, WithFace}
 use Rattle.points.specs.Values.{Valuation, free_value}
 use Rattle.points.specs.Points.{Point, Free}

@@ -1,5 +1,6 @@
 -- What a subtree opens to.
-use Rattle.std.specs.Prelude.{◌≡◌, ℕ, suc, ◌+◌, Bool, IsTrue, List, length, Option, Some, MatchOption, option_and_then}
+use Rattle.std.specs.Prelude.{◌≡◌, ℕ, suc, ◌+◌, Bool, IsTrue, List, length, Option, Some}
+use Rattle.std.specs.Prelude.{MatchOption, option_and_then}
 use Rattle.std.specs.List.{All}
 use Rattle.trees.specs.declared.op.Op.{Op}
 use Rattle.trees.specs.Operators.{binds_of}

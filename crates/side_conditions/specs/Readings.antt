@@ -1,6 +1,7 @@
 -- What makes a form or a face that of a tree, and faces those of a context. Names have their level
 -- as number.
-use Rattle.std.specs.Prelude.{◌≡◌, ◌↔◌, Bool, false, ◌||◌, List, IsTrue, Option, Some, None, MatchOption}
+use Rattle.std.specs.Prelude.{◌≡◌, ◌↔◌, Bool, false, ◌||◌, List, IsTrue, Option, Some, None}
+use Rattle.std.specs.Prelude.{MatchOption}
 use Rattle.std.specs.List.{All}
 use Rattle.trees.specs.Trees.{Tree}
 use Rattle.trees.specs.Judgements.{Context}

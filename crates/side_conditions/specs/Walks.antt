@@ -1,5 +1,6 @@
 -- Walks that read a tree: what is left to do, the next first, and what was read.
-use Rattle.std.specs.Prelude.{◌≡◌, ◌⊎◌, ℕ, suc, ◌+◌, ◌*◌, ◌≤◌, Bool, List, [], ◌∷◌, ◌++◌, length, map, Option, Some, IsSome}
+use Rattle.std.specs.Prelude.{◌≡◌, ◌⊎◌, ℕ, suc, ◌+◌, ◌*◌, ◌≤◌, Bool, List, [], ◌∷◌, ◌++◌, length}
+use Rattle.std.specs.Prelude.{map, Option, Some, IsSome}
 use Rattle.std.specs.List.{All}
 use Rattle.trees.specs.Trees.{Tree}
 use Rattle.trees.specs.Judgements.{Context}

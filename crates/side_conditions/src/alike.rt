@@ -58,8 +58,9 @@ fn same_formulas<R: Reader>(
     }
 }
 
-/// Asks whether two trees are alike in the context: formulas of one value wherever its faces are true,
-/// or equal trees, for which the pairs then ask. The answer is no where they are formulas that differ.
+/// Asks whether two trees are alike in the context: formulas of one value wherever its faces are
+/// true, or equal trees, for which the pairs then ask. The answer is no where they are formulas
+/// that differ.
 fn ask_trees<R: Reader>(
     rows: &R,
     faces: &mut ContextFaces,
@@ -97,8 +98,8 @@ fn ask_trees<R: Reader>(
 }
 
 /// Asks whether two substitutions are alike in the context, place by place from the last: that all
-/// pairs agree. The answer is no where they have not one shift, or not as many trees, or formulas that
-/// differ.
+/// pairs agree. The answer is no where they have not one shift, or not as many trees, or formulas
+/// that differ.
 fn ask_places<R: Reader>(
     rows: &R,
     faces: &mut ContextFaces,

@@ -1,6 +1,7 @@
 //! Subtrees opened by one operator.
 
-ghost use Rattle.std.specs.Prelude.{◌≡◌, ◌+◌, ◌-◌, ◌<◌, ◌^◌, ℕ, suc, false, IsTrue, length, slice_index_or, Some, MatchOption, IfOk};
+ghost use Rattle.std.specs.Prelude.{◌≡◌, ◌+◌, ◌-◌, ◌<◌, ◌^◌, ℕ, suc, false, IsTrue, length};
+ghost use Rattle.std.specs.Prelude.{slice_index_or, Some, MatchOption, IfOk};
 ghost use Rattle.std.specs.List.{All};
 ghost use Rattle.trees.specs.declared.op.Op.{Op};
 ghost use Rattle.trees.specs.Operators.{kids_of};

@@ -13,7 +13,8 @@ pub struct Readings {
 }
 
 impl Readings {
-    ghost use Rattle.std.specs.Prelude.{◌≡◌, ◌⊎◌, Option, Some, None, IsSome, is_some, OnOk, option_copied};
+    ghost use Rattle.std.specs.Prelude.{◌≡◌, ◌⊎◌, Option, Some, None, IsSome, is_some, OnOk};
+    ghost use Rattle.std.specs.Prelude.{option_copied};
     ghost use Rattle.side_conditions.specs.declared.subtree.Subtree.{Subtree};
     ghost use Rattle.side_conditions.specs.declared.reading.Reading.{Reading};
     ghost use Rattle.side_conditions.specs.Tables.{IsAdded};

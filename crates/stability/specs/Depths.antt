@@ -1,5 +1,5 @@
--- Under how many variables and names, beyond the context of the rule, each tree stands that is a part
--- of a rule.
+-- Under how many variables and names, beyond the context of the rule, each tree stands that is a
+-- part of a rule.
 use Rattle.std.specs.Prelude.{ℕ, List, [], ◌∷◌}
 use Rattle.theory.specs.declared.rule.EqualityRule.{EqualityRule}
 use Rattle.theory.specs.declared.rule.EqualityRule.TheVariants.{TyEqRefl, TyEqSym, TyEqTrans}
