@@ -14,7 +14,7 @@ use Rattle.trees.specs.Judgements.{Context, Nil, WithVar, trees}
 use Rattle.trees.specs.Language.{Ctx, Ty, Tm}
 use Rattle.rules.specs.Rules.{rule_at}
 use Rattle.rules.specs.Shifts.{ShiftFits, ShiftsFit}
-use Rattle.rules.specs.Sides.{SideHolds}
+use Rattle.conditions.specs.Sides.{SideHolds}
 use Rattle.rules.specs.Table.{nat, zero, suc, universe, lam, pi}
 use Rattle.trees.specs.declared.claim.Claim.{Claim}
 use Rattle.trees.specs.declared.claim.Claim.TheVariants as claim

@@ -10,7 +10,7 @@ use std::alloc::AllocError;
 impl Book {
     ghost use Rattle.std.specs.Prelude.{◌↔◌, IfOk, IsTrue, MatchOption};
     ghost use Rattle.rows.specs.Views.{IsTree, IsContext};
-    ghost use Rattle.rules.specs.Sides.{is_formula, is_face, HoldsIn, SameIn};
+    ghost use Rattle.conditions.specs.Sides.{is_formula, is_face, HoldsIn, SameIn};
     ghost use Rattle.side_conditions.specs.Readings.{IsFormOf, IsFaceOf};
     ghost use Rattle.side_conditions.specs.Shapes.{tree_of};
     ghost use Rattle.side_conditions.specs.Contexts.{context_of};

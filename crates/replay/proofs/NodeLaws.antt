@@ -7,7 +7,7 @@ use Rattle.trees.specs.Judgements.{Judgement, TreeRule}
 use Rattle.theory.specs.RuleNames.{kinds_of, premises_of}
 use Rattle.trees.specs.Things.{Thing, meanings}
 use Rattle.rules.specs.Rules.{rule_at}
-use Rattle.rules.specs.Sides.{SideHolds}
+use Rattle.conditions.specs.Sides.{SideHolds}
 use Rattle.rules.specs.Claims.{rule_over, premise_at, conclusion_of as conclusion_of_rule}
 use Rattle.rules.proofs.TableLaws.{wants-count, some_rule, rule_kinds}
 use Rattle.derivation.specs.Meanings.{Meaning, things_at, conclusions_at}

@@ -10,7 +10,7 @@ use Rattle.compare.proofs.KidLaws.{take-more, All-at}
 use Rattle.side_conditions.specs.declared.deciding.SideConditions.{SideConditions}
 use Rattle.side_conditions.specs.Kept.{KeepsBelow}
 use Rattle.side_conditions.proofs.KeptLaws.{keeps-as, keeps-more}
-use Rattle.rules.specs.Sides.{SideHolds}
+use Rattle.conditions.specs.Sides.{SideHolds}
 use Rattle.rules.specs.Rules.{rule_at}
 use Rattle.rules.specs.Claims.{rule_over, side_at, sides_in}
 use Rattle.rules.proofs.TableLaws.{sides-few}

@@ -9,7 +9,7 @@ ghost use Rattle.trees.specs.Things.{Kept};
 ghost use Rattle.trees.specs.Claimed.{claimed};
 ghost use Rattle.rows.specs.Shown.{things, store_means};
 ghost use Rattle.rules.specs.Claims.{premise_at};
-ghost use Rattle.rules.specs.Sides.{SideHolds};
+ghost use Rattle.conditions.specs.Sides.{SideHolds};
 ghost use Rattle.derivation.specs.Meanings.{conclusion_at, conclusions_at};
 ghost use Rattle.derivation.specs.Right.{RightNode};
 ghost use Rattle.replay.specs.Filed.{file_meanings, AllFiled, AllFit, wants_of};

@@ -1,20 +1,10 @@
--- What side tests mean, and what a rule at given parts wants, asks and gives.
-use Rattle.std.specs.Prelude.{ℕ, List, [], ◌∷◌, Option, Some, None}
+-- What a rule at given parts wants, asks and gives.
+use Rattle.std.specs.Prelude.{ℕ, List, Option, Some, None}
 use Rattle.std.specs.Prelude.{slice_get, length, option_and_then}
 use Rattle.theory.specs.declared.rule.RuleName.{RuleName}
 use Rattle.trees.specs.Judgements.{Judgement, SideCondition, TreeRule}
-use Rattle.trees.specs.Things.{Thing, Meanings, meanings}
-use Rattle.rules.specs.declared.as_rows.SideTest.{SideTest}
-use Rattle.rules.specs.declared.as_rows.SideTest.TheVariants.{IsFormula, IsFace, Holds, Alike}
+use Rattle.trees.specs.Things.{Thing}
 use Rattle.rules.specs.Rules.{rule_at}
-use Rattle.rules.specs.Schemas.{formula_over, face_over, holds_over, alike_over}
-
--- the side condition that a test asks for
-abbrev pub asked : Meanings → SideTest → Option SideCondition
-asked f (IsFormula G r) = option_and_then formula_over (meanings f (G ∷ r ∷ []))
-asked f (IsFace G p) = option_and_then face_over (meanings f (G ∷ p ∷ []))
-asked f (Holds G p) = option_and_then holds_over (meanings f (G ∷ p ∷ []))
-asked f (Alike G d e) = option_and_then alike_over (meanings f (G ∷ d ∷ e ∷ []))
 
 -- the table's rule over these parts
 abbrev pub rule_over : RuleName → Option (List Thing) → Option TreeRule

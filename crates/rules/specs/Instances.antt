@@ -5,7 +5,7 @@ use Rattle.theory.specs.declared.rule.RuleName.{RuleName}
 use Rattle.trees.specs.Judgements.{Judgement, TreeRule}
 use Rattle.trees.specs.Things.{Thing}
 use Rattle.rules.specs.Rules.{rule_at}
-use Rattle.rules.specs.Sides.{SideHolds}
+use Rattle.conditions.specs.Sides.{SideHolds}
 
 -- The table's rule at these parts wants these premises in order, has side conditions that hold, and
 -- gives J.

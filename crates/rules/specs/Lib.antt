@@ -5,6 +5,4 @@ pub mod Run
 pub mod Shifts
 pub mod Schemas
 pub mod Claims
-pub mod Sides
-pub mod Formulas
 pub mod Instances

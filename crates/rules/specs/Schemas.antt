@@ -10,11 +10,11 @@ use Rattle.theory.specs.declared.rule.CompRule.TheVariants.{CompU}
 use Rattle.theory.specs.RuleNames.{premises_of}
 use Rattle.trees.specs.declared.claim.JudgementForm.{JudgementForm}
 use Rattle.trees.specs.declared.claim.JudgementForm.TheVariants as form
-use Rattle.trees.specs.Language.{IsFormula, IsFace, Holds, Alike}
 use Rattle.trees.specs.Trees.{Tree}
 use Rattle.trees.specs.Judgements.{Judgement, SideCondition, TreeRule}
-use Rattle.trees.specs.Things.{Thing, ATree, ASubst, AContext}
+use Rattle.trees.specs.Things.{Thing, ATree}
 use Rattle.trees.specs.Claimed.{said}
+use Rattle.conditions.specs.SideTests.{formula_over, face_over, holds_over, alike_over}
 use Rattle.rules.specs.Rules.{AtAllCases}
 use Rattle.rules.specs.Run.{thing_of, things_of, rows_in, rows_of_all, is_then}
 use Rattle.rules.specs.Run.{then_takes, left, rank_in}
@@ -50,22 +50,6 @@ abbrev pub judgement_of : Option (List Thing) → Program → Option Judgement
 judgement_of parts p = said (form_of p) (things_of parts (places_of p))
 
 -- the same of side conditions
-
-abbrev pub formula_over : List Thing → Option SideCondition
-formula_over (AContext G ∷ ATree r ∷ []) = Some (IsFormula G r)
-formula_over _ = None
-
-abbrev pub face_over : List Thing → Option SideCondition
-face_over (AContext G ∷ ATree p ∷ []) = Some (IsFace G p)
-face_over _ = None
-
-abbrev pub holds_over : List Thing → Option SideCondition
-holds_over (AContext G ∷ ATree p ∷ []) = Some (Holds G p)
-holds_over _ = None
-
-abbrev pub alike_over : List Thing → Option SideCondition
-alike_over (AContext G ∷ ASubst d ∷ ASubst e ∷ []) = Some (Alike G d e)
-alike_over _ = None
 
 abbrev pub condition_over : Test → List Thing → Option SideCondition
 condition_over (test.IsFormula G r) = formula_over

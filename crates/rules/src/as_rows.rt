@@ -10,28 +10,17 @@ ghost use Rattle.rules.specs.Run.{rows_of_all};
 ghost use Rattle.rules.specs.Shifts.{ShiftsFit};
 ghost use Rattle.rules.specs.Schemas.{judgement_of, condition_of, places_of, test_places};
 ghost use Rattle.rules.specs.Schemas.{fits, has_then, most_rows, most_wanted};
-ghost use Rattle.rules.specs.Claims.{asked, rule_over, premise_at, side_at};
+ghost use Rattle.conditions.specs.SideTests.{asked};
+ghost use Rattle.rules.specs.Claims.{rule_over, premise_at, side_at};
 ghost use Rattle.rules.specs.Claims.{conclusion_of, sides_in};
 
 use crate::machine::rows_of;
 use crate::program::{Program, Test};
 use crate::table::schema_of;
+use conditions::SideTest;
 use rows::Maker;
 use std::alloc::AllocError;
 use theory::{Claim, RuleName};
-
-/// A side condition whose context, trees and substitutions are named by the numbers of their rows.
-#[derive(Clone, Copy, Debug, PartialEq, Eq)]
-pub enum SideTest {
-    /// The tree is a formula over the names of the context.
-    IsFormula(u64, u64),
-    /// The tree is a face over the names of the context.
-    IsFace(u64, u64),
-    /// The face is true at every point at which the faces of the context are.
-    Holds(u64, u64),
-    /// The two substitutions are alike over the context.
-    Alike(u64, u64, u64),
-}
 
 /// The claim that a program makes.
 pub(crate) fn claim_of<M: Maker>(

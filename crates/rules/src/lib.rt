@@ -16,14 +16,13 @@
 mod as_rows;
 mod derived;
 mod instruction;
-mod laws;
 mod machine;
 mod program;
 mod stack;
 mod table;
 
-pub use as_rows::{SideTest, concluded, side, wanted};
-pub use laws::laws_of_sides;
+pub use as_rows::{concluded, side, wanted};
+pub use conditions::SideTest;
 
 #[cfg(test)]
 mod tests;

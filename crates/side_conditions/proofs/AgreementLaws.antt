@@ -7,7 +7,7 @@ use Rattle.trees.specs.Trees.{Tree, Var, Make, NoTrees, More}
 use Rattle.trees.specs.Judgements.{Context, Nil, WithVar, WithName, WithFace}
 use Rattle.points.specs.Values.{Value, negation, meet, join, Valuation, value_at}
 use Rattle.points.specs.Points.{Point, Free, coordinate_value, valuation_of, coordinate_at}
-use Rattle.rules.specs.Sides.{is_name, is_formula, is_face, value, is_true, Satisfies}
+use Rattle.conditions.specs.Sides.{is_name, is_formula, is_face, value, is_true, Satisfies}
 use Rattle.side_conditions.specs.Levels.{count_indices}
 
 abbrev pub SameValues : ℕ → Valuation → Valuation → Type 0

@@ -23,7 +23,7 @@ use Rattle.compare.proofs.AskLaws.{asks-true, asks-as, asks-pair}
 use Rattle.compare.proofs.AskingLaws.{Asking, asking-begin, asking-next, asking-end, asking-no, asking-grows}
 use Rattle.compare.proofs.OpenLaws.{closure-tree}
 use Rattle.compare.proofs.SubstAskLaws.{SubstHeads, Pushed, pushed, trees_in, subst_row-meaning, subst_row-stands, subst_closure-grows, is_subst_closure-grows}
-use Rattle.rules.specs.Sides.{is_formula, value, SameIn, AlikeIn, AlikeTrees}
+use Rattle.conditions.specs.Sides.{is_formula, value, SameIn, AlikeIn, AlikeTrees}
 use Rattle.side_conditions.specs.Formulas.{AreFormulas, AreAlike}
 use Rattle.side_conditions.specs.Shapes.{tree_of}
 

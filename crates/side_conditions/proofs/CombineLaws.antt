@@ -14,7 +14,7 @@ use Rattle.faces.specs.Equations.{equals_end}
 use Rattle.faces.specs.Faces.{face_truth}
 use Rattle.side_conditions.specs.declared.reading.Reading.{Reading}
 use Rattle.side_conditions.specs.declared.reading.Reading.TheVariants as reading
-use Rattle.rules.specs.Sides.{is_name, is_formula, is_face, value, is_true}
+use Rattle.conditions.specs.Sides.{is_name, is_formula, is_face, value, is_true}
 use Rattle.side_conditions.specs.Levels.{count_indices, point_by_index}
 use Rattle.side_conditions.specs.Readings.{IsFormOf, IsFaceOf, IsReadingOf, is_readable, form_in, face_in}
 use Rattle.side_conditions.proofs.LevelLaws.{by_index-at, valuation-by_index, free-by_index}

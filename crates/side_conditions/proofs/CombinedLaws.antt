@@ -12,7 +12,7 @@ use Rattle.side_conditions.specs.declared.shapes.Binary.{Binary}
 use Rattle.side_conditions.specs.declared.shapes.Binary.TheVariants as binary
 use Rattle.side_conditions.specs.declared.shapes.Shape.TheVariants as shape
 use Rattle.side_conditions.specs.declared.reading.Reading.{Reading}
-use Rattle.rules.specs.Sides.{is_name, is_formula, is_face}
+use Rattle.conditions.specs.Sides.{is_name, is_formula, is_face}
 use Rattle.side_conditions.specs.Levels.{indices, count_indices, with_names}
 use Rattle.side_conditions.specs.Readings.{IsReadingOf, Reads, is_readable}
 use Rattle.side_conditions.specs.Shapes.{nullary_op, unary_op, binary_op, bound_by, within, with_bound}

@@ -12,7 +12,7 @@ use Rattle.rows.specs.Views.{IsTree, IsContext}
 use Rattle.points.specs.Points.{Point}
 use Rattle.faces.specs.declared.equations.Equation.{Equation}
 use Rattle.faces.specs.Faces.{face_truth}
-use Rattle.rules.specs.Sides.{is_face, is_true, Satisfies}
+use Rattle.conditions.specs.Sides.{is_face, is_true, Satisfies}
 use Rattle.side_conditions.specs.Levels.{indices, point_by_index}
 use Rattle.side_conditions.specs.Readings.{IsFaceOf, AreFacesOf}
 use Rattle.side_conditions.specs.Shapes.{tree_of}

@@ -10,7 +10,7 @@ use Rattle.closures.specs.Closures.{IsClosure, closure_meaning}
 use Rattle.closures.specs.declared.closure.Closure.{Closure}
 use Rattle.closures.proofs.HeadLaws.{closure_meaning-grows}
 use Rattle.interval.specs.declared.literals.Literal.{Literal}
-use Rattle.rules.specs.Sides.{is_formula}
+use Rattle.conditions.specs.Sides.{is_formula}
 use Rattle.side_conditions.specs.declared.subtree.Subtree.{Subtree}
 use Rattle.side_conditions.specs.declared.reading.Reading.{Reading}
 use Rattle.side_conditions.specs.declared.reading.Reading.TheVariants as reading

@@ -7,7 +7,7 @@ use Rattle.trees.specs.Judgements.{Context}
 use Rattle.points.specs.Points.{Point, Free}
 use Rattle.faces.specs.declared.equations.Equation.{Equation}
 use Rattle.faces.specs.Faces.{face_truth, HoldsUnder}
-use Rattle.rules.specs.Sides.{is_face, is_true, Satisfies, HoldsIn}
+use Rattle.conditions.specs.Sides.{is_face, is_true, Satisfies, HoldsIn}
 use Rattle.side_conditions.specs.Levels.{count_indices, point_by_index}
 use Rattle.side_conditions.specs.Readings.{AreFacesOf}
 use Rattle.side_conditions.proofs.LevelLaws.{by_index-twice}

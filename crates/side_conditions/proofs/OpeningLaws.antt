@@ -30,7 +30,7 @@ use Rattle.side_conditions.specs.declared.shapes.Binary.TheVariants as binary
 use Rattle.side_conditions.specs.declared.shapes.Connective.TheVariants as connective
 use Rattle.side_conditions.specs.declared.shapes.Shape.{Shape}
 use Rattle.side_conditions.specs.declared.shapes.Shape.TheVariants as shape
-use Rattle.rules.specs.Sides.{is_name}
+use Rattle.conditions.specs.Sides.{is_name}
 use Rattle.side_conditions.specs.Levels.{indices, with_names}
 use Rattle.side_conditions.specs.Readings.{is_readable}
 use Rattle.side_conditions.specs.Shapes.{nullary_op, unary_op, binary_op, connective_of, bound_by, tree_of, tree_at, with_bound}

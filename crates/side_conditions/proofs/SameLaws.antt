@@ -19,7 +19,7 @@ use Rattle.faces.specs.Faces.{face_truth, IsConsistent}
 use Rattle.faces.proofs.OwnPoints.{own_point, true_at_own_point, face_from, face_has}
 use Rattle.antichains.proofs.Truth.{passes_at}
 use Rattle.antichains.proofs.Members.{Contains-head, Contains-rest, All-from_contains}
-use Rattle.rules.specs.Sides.{value, SameIn}
+use Rattle.conditions.specs.Sides.{value, SameIn}
 use Rattle.side_conditions.specs.Levels.{count_indices, by_index, values_by_index, point_by_index}
 use Rattle.side_conditions.specs.Readings.{IsFormOf, AreFacesOf}
 use Rattle.side_conditions.specs.Restricted.{with_ends, SameWith, SameWithin}

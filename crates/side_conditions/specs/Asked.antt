@@ -1,7 +1,7 @@
 -- What side tests ask about.
 use Rattle.std.specs.Prelude.{ℕ}
-use Rattle.rules.specs.declared.as_rows.SideTest.{SideTest}
-use Rattle.rules.specs.declared.as_rows.SideTest.TheVariants.{IsFormula, IsFace, Holds, Alike}
+use Rattle.conditions.specs.declared.side_test.SideTest.{SideTest}
+use Rattle.conditions.specs.declared.side_test.SideTest.TheVariants.{IsFormula, IsFace, Holds, Alike}
 
 -- the row of the context
 abbrev pub ctx_in : SideTest → ℕ

@@ -2,7 +2,7 @@
 use Rattle.std.specs.Prelude.{◌≡◌, ◌↔◌, ◌⊎◌, Bool, IsTrue, Option, MatchOption}
 use Rattle.trees.specs.Trees.{Tree}
 use Rattle.trees.specs.Judgements.{Context}
-use Rattle.rules.specs.Sides.{is_formula, SameIn}
+use Rattle.conditions.specs.Sides.{is_formula, SameIn}
 
 -- both are formulas, and this tells whether they are of one value
 pub record AreFormulas (G : Context) (r s : Tree) (same : Bool) : Type 0 where

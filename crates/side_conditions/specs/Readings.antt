@@ -13,7 +13,7 @@ use Rattle.faces.specs.declared.equations.Equation.{Equation}
 use Rattle.faces.specs.Faces.{face_truth}
 use Rattle.side_conditions.specs.declared.reading.Reading.{Reading}
 use Rattle.side_conditions.specs.declared.reading.Reading.TheVariants as reading
-use Rattle.rules.specs.Sides.{is_formula, is_face, value, is_true, Satisfies}
+use Rattle.conditions.specs.Sides.{is_formula, is_face, value, is_true, Satisfies}
 use Rattle.side_conditions.specs.Levels.{values_by_index, point_by_index}
 
 -- the tree is a formula over the names of G, and the form has its value under every valuation

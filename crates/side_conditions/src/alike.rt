@@ -6,7 +6,7 @@ ghost use Rattle.rows.specs.Views.{IsSubst};
 ghost use Rattle.closures.specs.Closures.{IsClosure, closure_meaning, subst_of};
 ghost use Rattle.closures.specs.Shown.{lists};
 ghost use Rattle.compare.specs.Pairs.{Asks};
-ghost use Rattle.rules.specs.Sides.{AlikeIn};
+ghost use Rattle.conditions.specs.Sides.{AlikeIn};
 ghost use Rattle.side_conditions.specs.Contexts.{context_of};
 ghost use Rattle.side_conditions.specs.Formulas.{AreAlike, AreSameFormulas};
 ghost use Rattle.side_conditions.specs.Held.{StandsFor};

@@ -29,7 +29,7 @@ impl ContextFaces {
     ghost use Rattle.trees.specs.Things.{Meanings};
     ghost use Rattle.rows.specs.Views.{IsTree, IsSubst, IsContext};
     ghost use Rattle.closures.specs.Closures.{subst_of};
-    ghost use Rattle.rules.specs.Sides.{is_formula, is_face, HoldsIn, SameIn, AlikeIn};
+    ghost use Rattle.conditions.specs.Sides.{is_formula, is_face, HoldsIn, SameIn, AlikeIn};
     ghost use Rattle.side_conditions.specs.Readings.{IsFormOf, IsFaceOf};
     ghost use Rattle.side_conditions.specs.Shapes.{tree_of};
     ghost use Rattle.side_conditions.specs.Contexts.{context_of, IsMeetOf};

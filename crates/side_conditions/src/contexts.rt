@@ -6,7 +6,7 @@ ghost use Rattle.trees.specs.Judgements.{Context};
 ghost use Rattle.rows.specs.Views.{IsTree, IsContext};
 ghost use Rattle.points.specs.Points.{Point};
 ghost use Rattle.faces.specs.Faces.{face_truth};
-ghost use Rattle.rules.specs.Sides.{is_face, is_true};
+ghost use Rattle.conditions.specs.Sides.{is_face, is_true};
 ghost use Rattle.side_conditions.specs.Levels.{indices, point_by_index};
 ghost use Rattle.side_conditions.specs.Readings.{AreFacesOf};
 ghost use Rattle.side_conditions.specs.Shapes.{tree_of};

@@ -1,14 +1,14 @@
 //! Side conditions of rules, answered one after another.
 
 ghost use Rattle.std.specs.Prelude.{◌≡◌, ◌↔◌, IfOk, IfSome, IsSome, IsTrue};
-ghost use Rattle.rules.specs.Claims.{asked};
-ghost use Rattle.rules.specs.Sides.{SideHolds};
+ghost use Rattle.conditions.specs.SideTests.{asked};
+ghost use Rattle.conditions.specs.Sides.{SideHolds};
 ghost use Rattle.side_conditions.specs.Held.{StandsFor};
 ghost use Rattle.side_conditions.specs.Asked.{ctx_in};
 
 use crate::context_faces::ContextFaces;
+use conditions::SideTest;
 use rows::{CtxId, Reader, SubId, TermId};
-use rules::SideTest;
 use std::alloc::{AllocError, Global};
 
 /// Answers side conditions, and keeps the names and the faces of the last context that was asked
@@ -21,8 +21,8 @@ pub struct SideConditions {
 impl SideConditions {
     ghost use Rattle.std.specs.Prelude.{◌↔◌, ℕ, IfOk, IfSome, IsSome, IsTrue};
     ghost use Rattle.trees.specs.Things.{Meanings};
-    ghost use Rattle.rules.specs.Claims.{asked};
-    ghost use Rattle.rules.specs.Sides.{SideHolds};
+    ghost use Rattle.conditions.specs.SideTests.{asked};
+    ghost use Rattle.conditions.specs.Sides.{SideHolds};
     ghost use Rattle.side_conditions.specs.Kept.{KeepsBelow};
 
     /// Nothing was asked.

@@ -3,7 +3,7 @@
 ghost use Rattle.std.specs.Prelude.{◌≡◌, ◌+◌, ℕ, suc, IsTrue, IfOk, option_copied};
 ghost use Rattle.trees.specs.Trees.{Tree, Var, Make, NoTrees, More};
 ghost use Rattle.trees.specs.Judgements.{Context};
-ghost use Rattle.rules.specs.Sides.{is_name};
+ghost use Rattle.conditions.specs.Sides.{is_name};
 ghost use Rattle.side_conditions.specs.Levels.{count_indices};
 ghost use Rattle.side_conditions.specs.Shapes.{nullary_op, unary_op, binary_op, within};
 ghost use Rattle.side_conditions.specs.Readings.{IsReadingOf, Reads, form_in, face_in};

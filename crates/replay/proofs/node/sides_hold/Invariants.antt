@@ -3,7 +3,7 @@ use Rattle.std.specs.Prelude.{slice_get}
 use Rattle.std.specs.List.{All}
 use Rattle.rows.specs.Shown.{things}
 use Rattle.rules.specs.Claims.{sides_in}
-use Rattle.rules.specs.Sides.{SideHolds}
+use Rattle.conditions.specs.Sides.{SideHolds}
 use Rattle.side_conditions.specs.Kept.{KeepsBelow}
 use Rattle.replay.specs.Premises.{rule_at_rows}
 use Rattle.replay.specs.Sides.{sides_of}

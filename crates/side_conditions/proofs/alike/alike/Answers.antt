@@ -2,7 +2,7 @@ use Rattle.std.proofs.Common.{[], refl}
 use Rattle.closures.specs.Shown.{lists}
 use Rattle.closures.specs.Closures.{subst_of}
 use Rattle.compare.proofs.AskLaws.{asks-stand, asks-decides}
-use Rattle.rules.specs.Sides.{AlikeIn}
+use Rattle.conditions.specs.Sides.{AlikeIn}
 use Rattle.side_conditions.specs.Contexts.{context_of}
 use Rattle.side_conditions.proofs.alike.alike.Goals as goal
 

@@ -9,7 +9,7 @@ use Rattle.closures.specs.declared.substs.SubstHead.{SubstHead}
 use Rattle.closures.specs.declared.substs.SubstHead.TheVariants.{Push}
 use Rattle.compare.specs.Pairs.{Asks}
 use Rattle.compare.proofs.SubstAskLaws.{SubstHeads, subst_heads, is_subst_closure-grows}
-use Rattle.rules.specs.Sides.{AlikeIn}
+use Rattle.conditions.specs.Sides.{AlikeIn}
 use Rattle.side_conditions.specs.Contexts.{context_of}
 use Rattle.side_conditions.specs.Formulas.{AreAlike}
 use Rattle.side_conditions.specs.Shapes.{tree_of}

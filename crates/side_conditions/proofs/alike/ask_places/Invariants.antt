@@ -2,7 +2,7 @@ use Rattle.closures.specs.Shown.{lists}
 use Rattle.closures.specs.Closures.{subst_of}
 use Rattle.closures.specs.Substs.{subst_closure_meaning}
 use Rattle.compare.proofs.SubstAskLaws.{trees_in}
-use Rattle.rules.specs.Sides.{AlikeIn}
+use Rattle.conditions.specs.Sides.{AlikeIn}
 use Rattle.side_conditions.specs.Contexts.{context_of}
 use Rattle.side_conditions.specs.Held.{StandsFor}
 use Rattle.side_conditions.specs.Shown.{reading_at}

@@ -1,8 +1,8 @@
 use Rattle.std.proofs.Common.{◌≡◌, true, false, [], refl, ap}
 use Rattle.trees.specs.Trees.{Var}
-use Rattle.rules.specs.Formulas.{i1, neg, max, one_name}
-use Rattle.rules.specs.Sides.{SameIn}
-use Rattle.rules.proofs.laws.laws_of_sides.Goals as goal
+use Rattle.conditions.specs.Formulas.{i1, neg, max, one_name}
+use Rattle.conditions.specs.Sides.{SameIn}
+use Rattle.conditions.proofs.laws.laws_of_sides.Goals as goal
 
 different : SameIn one_name (max (Var 0) (neg (Var 0))) i1 → ⊥
 different same =

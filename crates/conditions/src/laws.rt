@@ -4,8 +4,8 @@ ghost use Rattle.std.specs.Prelude.{◌≡◌, IsTrue};
 ghost use Rattle.trees.specs.Trees.{Tree, Var};
 ghost use Rattle.trees.specs.Judgements.{Context};
 ghost use Rattle.points.specs.Points.{Point};
-ghost use Rattle.rules.specs.Formulas.{i1, neg, max, eq0, eq1, join, all, one_name};
-ghost use Rattle.rules.specs.Sides.{is_face, is_true, Satisfies, HoldsIn, SameIn};
+ghost use Rattle.conditions.specs.Formulas.{i1, neg, max, eq0, eq1, join, all, one_name};
+ghost use Rattle.conditions.specs.Sides.{is_face, is_true, Satisfies, HoldsIn, SameIn};
 
 /// Side conditions say what they ought to. A name i and its negation are two things of which
 /// neither tells of the other: so `max i (neg i)` is not `i1`, and `join (i=0) (i=1)` does not hold
