@@ -1,9 +1,10 @@
 #!/usr/bin/env python3
-"""Times `ctt replay` on files of about N rows, of four shapes.
+"""Times `ctt replay` on files of about N rows, of five shapes.
 
 `suc`: successors of zero. `lam`: functions of many arguments, each derived under the context of those
 before it. `app`: one function applied to what it gave before, so that each argument's type is an instance.
-`sub`: a term weakened entry by entry along a context.
+`sub`: a term weakened entry by entry along a context. `comp`: compositions over one line, each of what the
+one before gave.
 """
 
 import os
@@ -108,7 +109,33 @@ def weakenings(count):
     return file.text(node)
 
 
-SHAPES = {"suc": successors, "lam": functions, "app": applications, "sub": weakenings}
+def compositions(count):
+    file = File()
+    nil, is_nil = file.contexts[0]
+    line = file.row(f"c name {nil}")
+    over_line = file.is_type(line, file.row(f"n ctx.name {nil} {is_nil}"))
+    face = file.row("t f0")
+    within = file.row(f"c face {nil} {face}")
+    is_within = file.row(f"n ctx.face {nil} {face} {is_nil}")
+    side_line = file.row(f"c name {within}")
+    is_side_line = file.row(f"n ctx.name {within} {is_within}")
+    zero = file.row("t zero")
+    side = file.row(f"n zero {side_line} {is_side_line}")
+    side_at_start = file.row(f"n zero {within} {is_within}")
+    same = file.row("s shift 0")
+    identity = file.row(f"n sub.id {nil} {is_nil}")
+    narrowing = file.row(f"n sub.wkface {nil} {same} {nil} {face} {identity}")
+    tree, node = zero, file.row(f"n zero {nil} {is_nil}")
+    for _ in range(count // 4):
+        there = file.row(f"n tm.sub {within} {same} {nil} {tree} {file.nat} {narrowing} {node}")
+        equal = file.row(f"n tmeq.absurd {within} {tree} {zero} {file.nat} {there} {side_at_start}")
+        node = file.row(f"n comp {nil} {file.nat} {face} {zero} {tree} {over_line} {side} {node} {equal}")
+        tree = file.row(f"t comp {file.nat} {face} {zero} {tree}")
+    return file.text(node)
+
+
+SHAPES = {"suc": successors, "lam": functions, "app": applications, "sub": weakenings,
+          "comp": compositions}
 
 
 def run(program, path):

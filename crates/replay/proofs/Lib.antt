@@ -8,4 +8,5 @@ pub mod SideLaws
 pub mod NodeLaws
 pub mod RowLaws
 pub mod ShiftLaws
+pub mod RootLaws
 pub mod FileLaws

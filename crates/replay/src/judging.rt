@@ -1,14 +1,16 @@
 //! The judge.
 
-ghost use Rattle.std.specs.Prelude.{◌≡◌, [], ◌∷◌, IfOk};
-ghost use Rattle.replay.specs.Meant.{count_roots};
+ghost use Rattle.std.specs.Prelude.{◌≡◌, [], IfOk};
+ghost use Rattle.replay.specs.Meant.{meant_by};
+ghost use Rattle.replay.specs.Sides.{Keeps};
+ghost use Rattle.replay.specs.Shown.{JudgedIs, RootsAre};
 ghost use Rattle.replay.specs.Verdicts.{VerdictIs};
 
-use crate::row_judge::RowJudge;
-use deriv_file::{Next, Row, RowReader};
+use crate::judged_rows::Rows;
+use deriv_file::{Next, RowReader};
 use std::alloc::{AllocError, Global};
 
-/// What is found of a derivation file.
+/// Whether every row of a derivation file is right.
 #[derive(Clone, Copy, Debug, PartialEq, Eq)]
 pub enum Verdict {
     /// Every row is right; the number of rows, and of roots among them.
@@ -17,35 +19,48 @@ pub enum Verdict {
     No { row: u64 },
 }
 
-/// One for a root.
-fn root_count(row: &Row) -> u64
-    ensures { result ≡ count_roots (row.now ∷ []) }
-{
-    if matches!(row, Row::Root(_)) { 1 } else { 0 }
+/// What is found of a derivation file.
+#[derive(Drop)]
+pub struct Judged {
+    /// Whether every row is right.
+    pub verdict: Verdict,
+    /// The rows that are, up to the first that is not, with the roots among them.
+    pub rows: Rows,
 }
 
-/// Judges a derivation file. The only error is to be out of memory.
-pub fn judge(alloc: Global, bytes: &[u8]) -> Result<Verdict, AllocError>
-    ensures { IfOk result (VerdictIs bytes.now) }
+/// Judges the rows of a file one after the other, until one is not right.
+fn judge_rows(alloc: Global, bytes: &[u8], rows: &mut Rows) -> Result<Verdict, AllocError>
+    requires none { meant_by rows.old.judge ≡ [] }
+    requires no_roots { rows.old.roots.items ≡ [] }
+    requires keeps { Keeps rows.old.judge.sides rows.old.judge.store }
+    ensures { IfOk result (λ verdict. JudgedIs bytes.now verdict rows.new) }
 {
     let mut reader = RowReader::new(bytes);
-    let mut judge = RowJudge::new(alloc);
-    let mut roots = 0;
     loop {
         let row = match reader.next(alloc)? {
             Next::Row(row) => row,
             Next::BadSpelling(row) => return Ok(Verdict::No { row }),
             Next::End => break,
         };
-        let right = judge.add(alloc, &row)?;
-        let count = judge.len() as u64;
+        let right = rows.judge_row(alloc, &row)?;
         if !right {
-            return Ok(Verdict::No { row: count });
+            let row = rows.len() as u64;
+            return Ok(Verdict::No { row });
         }
-        roots += root_count(&row);
     }
-    Ok(match judge.len() as u64 {
+    let roots = rows.root_count();
+    Ok(match rows.len() as u64 {
         0 => Verdict::No { row: 0 },
         rows => Verdict::Yes { rows, roots },
     })
+}
+
+/// Judges a derivation file. The only error is to be out of memory.
+pub fn judge(alloc: Global, bytes: &[u8]) -> Result<Judged, AllocError>
+    ensures verdict { IfOk result (λ judged. VerdictIs bytes.now judged.verdict) }
+    ensures roots { IfOk result (RootsAre bytes.now) }
+{
+    let mut rows = Rows::new(alloc);
+    let verdict = judge_rows(alloc, bytes, &mut rows)?;
+    Ok(Judged { verdict, rows })
 }

@@ -11,6 +11,7 @@
 
 mod filed;
 mod filed_rows;
+mod judged_rows;
 mod judging;
 mod named;
 mod node;
@@ -18,7 +19,8 @@ mod number;
 mod row_judge;
 mod thing;
 
-pub use judging::{Verdict, judge};
+pub use judged_rows::Rows;
+pub use judging::{Judged, Verdict, judge};
 
 #[cfg(test)]
 mod tests;

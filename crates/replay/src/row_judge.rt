@@ -17,6 +17,7 @@ use deriv_file::Row;
 use rows::RowStore;
 use side_conditions::SideConditions;
 use std::alloc::{AllocError, Global};
+use theory::Claim;
 
 /// What is kept of a root row, where what it names is a node.
 fn filed_root(store: &RowStore, filed: &FiledRows, node: u64) -> Option<Filed>
@@ -87,9 +88,12 @@ pub struct RowJudge {
 }
 
 impl RowJudge {
-    ghost use Rattle.std.specs.Prelude.{◌≡◌, ◌++◌, ◌∷◌, ℕ, [], length, IfOk, OnErr, true, false};
+    ghost use Rattle.std.specs.Prelude.{◌≡◌, ◌++◌, ◌∷◌, ◌↔◌, ℕ, [], length, true, false};
+    ghost use Rattle.std.specs.Prelude.{IfOk, OnErr, IsSome, IsTrue};
+    ghost use Rattle.trees.specs.Claimed.{claimed};
+    ghost use Rattle.rows.specs.Views.{IsFit, row_meaning};
     ghost use Rattle.deriv_file.specs.Spelling.{MayStand};
-    ghost use Rattle.derivation.specs.Meanings.{Meaning};
+    ghost use Rattle.derivation.specs.Meanings.{Meaning, conclusion_at};
     ghost use Rattle.derivation.specs.Right.{RightRow};
     ghost use Rattle.replay.specs.Meant.{meant_by};
     ghost use Rattle.replay.specs.Sides.{Keeps};
@@ -140,5 +144,47 @@ impl RowJudge {
         };
         self.filed.push(row)?;
         Ok(true)
+    }
+
+    /// The conclusion of a row that is a node.
+    pub fn conclusion(&self, node: u64) -> Claim
+        requires { IsSome (conclusion_at (meant_by self.now) node) }
+        ensures { claimed (store_means self.now.store) result ≡
+            conclusion_at (meant_by self.now) node }
+    {
+        match self.filed.row(node) {
+            Filed::Node(claim) => claim,
+            Filed::Thing(_) | Filed::Nothing => unreachable!(),
+        }
+    }
+
+    /// Makes a row that fits, over the rows of the store.
+    pub fn make(&mut self, row: rows::Row<'_>) -> Result<u64, AllocError>
+        requires { IsFit (store_means self.old.store) row }
+        ensures kept { Kept (store_means self.old.store) (store_means self.new.store) }
+        ensures meaning { IfOk result (λ at. store_means self.new.store at ≡
+            row_meaning (store_means self.old.store) row.entry) }
+        ensures meant { meant_by self.new ≡ meant_by self.old }
+    {
+        Ok(self.store.add(row)?)
+    }
+
+    /// Whether a row fits the rows of the store.
+    pub fn fits(&self, row: &rows::Row<'_>) -> bool
+        ensures { IsTrue result ↔ IsFit (store_means self.now.store) row.now }
+    {
+        self.store.fits(row)
+    }
+
+    /// Whether two claims over rows of the store are the same judgement.
+    pub fn same_claim(&mut self, left: Claim, right: Claim) -> Result<bool, AllocError>
+        requires left { IsSome (claimed (store_means self.old.store) left) }
+        requires right { IsSome (claimed (store_means self.old.store) right) }
+        ensures same { let f = store_means self.old.store in
+            IfOk result (λ same. IsTrue same ↔ (claimed f left ≡ claimed f right)) }
+        ensures store { self.new.store ≡ self.old.store }
+        ensures filed { self.new.filed ≡ self.old.filed }
+    {
+        Ok(self.comparison.same_claim(&self.store, left, right)?)
     }
 }

@@ -1,8 +1,10 @@
 //! Files whose rows are right, and files with a row that is not.
 
-use crate::{Verdict, judge};
+use crate::{Judged, Verdict, judge};
+use rows::{CtxId, CtxRow, Row};
 use std::alloc::{AllocError, Global};
 use std::test::Fail;
+use theory::Claim;
 
 // Nat is a type, and the successor of the successor of zero is one of its terms.
 const TWO: [&str; 13] = [
@@ -37,7 +39,7 @@ fn verdict_with(alloc: Global, rows: &[&str], at: usize, row: &str) -> Result<Ve
         text.push_str(if k == at { row } else { *line })?;
         text.push('\n')?;
     }
-    judge(alloc, text.as_bytes())
+    Ok(judge(alloc, text.as_bytes())?.verdict)
 }
 
 #[test]
@@ -46,7 +48,7 @@ fn right_rows_are_right(rt: HostRuntime) -> Result<(), Fail> {
     let cases: [(usize, u64); 5] = [(1, 0), (6, 0), (7, 1), (12, 1), (13, 2)];
     for (rows, roots) in cases {
         let text = lines(rt.alloc(), &TWO[..rows])?;
-        let verdict = judge(rt.alloc(), text.as_bytes())?;
+        let verdict = judge(rt.alloc(), text.as_bytes())?.verdict;
         let rows = rows as u64;
         assert_eq!(rt; verdict, Verdict::Yes { rows, roots });
     }
@@ -92,7 +94,10 @@ fn the_first_bad_row_is_named(rt: HostRuntime) -> Result<(), Fail> {
         let verdict = verdict_with(rt.alloc(), &TWO, at, row)?;
         assert_eq!(rt; verdict, Verdict::No { row: at as u64 }, "at {row}");
     }
-    assert_eq!(rt; judge(rt.alloc(), b"".as_slice())?, Verdict::No { row: 0 });
+    assert_eq!(rt;
+        judge(rt.alloc(), b"".as_slice())?.verdict,
+        Verdict::No { row: 0 }
+    );
     Ok(())
 }
 
@@ -264,7 +269,7 @@ fn towers(alloc: Global) -> Result<String, AllocError> {
 #[test]
 fn towers_are_compared(rt: HostRuntime) -> Result<(), Fail> {
     let text = towers(rt.alloc())?;
-    let verdict = judge(rt.alloc(), text.as_bytes())?;
+    let verdict = judge(rt.alloc(), text.as_bytes())?.verdict;
     let rows = 3 * HEIGHT + 8;
     assert_eq!(rt; verdict, Verdict::Yes { rows, roots: 1 });
     Ok(())
@@ -278,11 +283,27 @@ fn long_files_are_judged(rt: HostRuntime) -> Result<(), Fail> {
         text.push_str("c nil\n")?;
     }
     text.push_str("n ctx.nil\nr 70001\n")?;
-    let verdict = judge(rt.alloc(), text.as_bytes())?;
+    let verdict = judge(rt.alloc(), text.as_bytes())?.verdict;
     let rows = 70_003;
     assert_eq!(rt; verdict, Verdict::Yes { rows, roots: 1 });
     text.push_str("r 70000\n")?;
-    let verdict = judge(rt.alloc(), text.as_bytes())?;
+    let verdict = judge(rt.alloc(), text.as_bytes())?.verdict;
     assert_eq!(rt; verdict, Verdict::No { row: 70_003 });
+    Ok(())
+}
+
+#[test]
+fn roots_are_compared_with_claims(rt: HostRuntime) -> Result<(), Fail> {
+    let bytes = b"rules 1\nc nil\nn ctx.nil\nr 2\n".as_slice();
+    let Judged { verdict, mut rows } = judge(rt.alloc(), bytes)?;
+    assert_eq!(rt; verdict, Verdict::Yes { rows: 4, roots: 1 });
+    assert!(rt; rows.root_count() == 1);
+    // the context of no entries, and of a name
+    let nil = rows.add(Row::Context(CtxRow::Nil))?;
+    let name = rows.add(Row::Context(CtxRow::Name(CtxId(nil))))?;
+    let root = rows.root_claim(0);
+    assert!(rt; rows.same_claim(root, Claim::Ctx(nil))?);
+    assert!(rt; !rows.same_claim(root, Claim::Ctx(name))?);
+    assert!(rt; !rows.fits(&Row::Context(CtxRow::Name(CtxId(7)))));
     Ok(())
 }

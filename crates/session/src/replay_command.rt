@@ -21,7 +21,7 @@ pub(crate) fn replay<F: Files>(
 {
     let mut bytes = Vec::new(alloc);
     match files.fetch(path, &mut bytes) {
-        Fetched::Found => Ok(Outcome::Judged(judge(alloc, &bytes)?)),
+        Fetched::Found => Ok(Outcome::Judged(judge(alloc, &bytes)?.verdict)),
         Fetched::Missing => Ok(Outcome::MissingFile(String::from_str(alloc, path)?)),
         Fetched::Failed => Ok(Outcome::ReadFault),
         Fetched::Memory => Err(AllocError),
