@@ -1,0 +1,6 @@
+pub mod Names
+pub mod UnderLaws
+pub mod FormulaLaws
+pub mod ValueLaws
+pub mod ToldLaws
+pub mod SideLaws

@@ -1,0 +1,4 @@
+pub mod Formulas
+pub mod Truths
+pub mod Follows
+pub mod Examples
