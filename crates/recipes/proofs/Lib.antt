@@ -1,0 +1,4 @@
+pub mod Ties
+pub mod FilledThings
+pub mod Uses
+pub mod Soundness

@@ -1,0 +1,5 @@
+pub mod Statements
+pub mod Made
+pub mod Derivations
+pub mod Normally
+pub mod Checks
