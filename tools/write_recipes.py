@@ -1,0 +1,143 @@
+#!/usr/bin/env python3
+"""Writes the tables of recipes from `recipes/*.txt`, where each stands judgement by judgement.
+
+A table is a list of `recipes::Row`, with the judgements as comments. Nothing of it is trusted: the
+test of `recipes` runs over the table, and a wrong row fails the proof of its crate. Run `rt fmt` in
+that crate afterwards.
+"""
+import pathlib
+import textwrap
+
+from recipe_notation import Recipe
+from rule_notation import OPERATORS, families
+
+ROOT = pathlib.Path(__file__).resolve().parent.parent
+
+# The crate of each recipe, and the earlier recipes that it may name, in the order of its statement.
+CRATES = {"fill": "kan_fill", "contr": "kan_fill", "pres": "kan_fill", "equiv": "kan_fill"}
+EARLIER = {"pres": ["fill"], "equiv": ["contr"]}
+
+WIDTH = 100
+MOST_PARTS, MOST_WANTED, MOST_PREMISES, MOST_KIDS = 10, 7, 16, 4
+
+
+def padded(numbers, count):
+    return f"[{', '.join(str(number) for number in numbers + [0] * (count - len(numbers)))}]"
+
+
+class Table:
+    """The rows of a recipe. A thing has one row, which stands before the first that names it."""
+
+    def __init__(self, recipe):
+        self.recipe, self.rows, self.count = recipe, [], 0
+        self.things, self.nodes, self.given = {}, {}, {}
+        self.used = {"Row": set(), "families": {}}
+        for node in recipe.nodes:
+            self.nodes[node.name] = self.node(node)
+
+    def row(self, text, comment=None, makes=1):
+        """The number of what a row makes first."""
+        self.used["Row"].add(text.split("(")[0])
+        number, self.count = self.count, self.count + makes
+        self.rows.append((text, f"{number}: {comment}" if comment else None))
+        return number
+
+    def thing(self, thing):
+        if thing not in self.things:
+            self.things[thing] = self.row(self.built(thing))
+        return self.things[thing]
+
+    def built(self, thing):
+        """The row of a thing, after those of its parts."""
+        word, *rest = thing
+        if word == "part":
+            return f"Part({self.recipe.parts.index(rest[0])})"
+        if word == "var":
+            return f"Var({rest[0]})"
+        if word in ("id", "up", "shift"):
+            return f"Shift({rest[0] if rest else ('id', 'up').index(word)})"
+        if word == "make":
+            kids = [self.thing(kid) for kid in rest[1]]
+            return f"Make(Op::{OPERATORS[rest[0]][0]}, {padded(kids, MOST_KIDS)})"
+        if word == "nil":
+            return "Nil"
+        if word == "weakened":
+            rest = [rest[0], ("up",)]
+        if word == "at":
+            rest = [rest[0], ("push", ("id",), rest[1])]
+        name = {"weakened": "Instance", "at": "Instance", "apply": "Instance", "push": "Push",
+                "then": "Then", "with_var": "WithVar", "with_name": "WithName",
+                "with_face": "WithFace"}[word]
+        return f"{name}({', '.join(str(self.thing(part)) for part in rest)})"
+
+    def node(self, node):
+        """The row of a node, or the first one of those that an earlier recipe gives."""
+        if node.word == "given":
+            at = [label for label, _ in self.given[node.premises[0]].outs].index(node.at)
+            return self.nodes[node.premises[0]] + at
+        if node.word == "premise":
+            return self.row(f"Premise({node.at})", node.text)
+        parts = padded([self.thing(tupled(part)) for part in node.parts], MOST_PARTS)
+        premises = [self.nodes[name] for name in node.premises]
+        if node.word == "recipe":
+            self.given[node.name] = node.rule
+            at = EARLIER[self.recipe.name].index(node.rule.name)
+            return self.row(f"Derive({at}, {parts}, {padded(premises, MOST_PREMISES)})",
+                            node.rule.name, len(node.rule.outs))
+        family = node.rule.family
+        self.used["families"].setdefault(family, set()).add(node.rule.variant)
+        name = f"{family.variant}({node.rule.variant})"
+        return self.row(f"Conclude({name}, {parts}, {padded(premises, MOST_WANTED)})", node.text)
+
+    def written(self):
+        """The file of the table."""
+        name = self.recipe.name.upper()
+        lines = ["//! Written by tools/write_recipes.py.", "", "use recipes::Row;"]
+        lines.append(f"use recipes::Row::{{{', '.join(sorted(self.used['Row']))}}};")
+        found = sorted(self.used["families"].items(), key=lambda item: item[0].enum)
+        for family, variants in found:
+            lines.append(f"use theory::{family.enum}::{{{', '.join(sorted(variants))}}};")
+        lines.append("use theory::Op;")
+        variants = ", ".join(sorted(family.variant for family, _ in found))
+        lines += [f"use theory::RuleName::{{{variants}}};", ""]
+        lines += [f"/// {line}" for line in self.recipe.about]
+        lines += [f"/// Its parts are {' '.join(self.recipe.parts)}.",
+                  f"pub static {name}: &[Row] = rows! {{"]
+        for text, comment in self.rows:
+            lines += wrapped(comment) + broken(f"    {text},")
+        outs = ", ".join(str(self.nodes[node]) for _, node in self.recipe.outs)
+        given = ", ".join(label for label, _ in self.recipe.outs)
+        lines += ["};", "", f"/// The rows of what it gives: {given}.",
+                  f"pub static {name}_GIVES: &[u16] = &[{outs}];", ""]
+        return "\n".join(lines)
+
+
+def wrapped(comment):
+    indents = {"initial_indent": "    // ", "subsequent_indent": "    //   "}
+    return textwrap.wrap(comment or "", WIDTH, **indents)
+
+
+def broken(line):
+    """A row, its premises on a line of their own where it is too long."""
+    if len(line) <= WIDTH:
+        return [line]
+    head, _, premises = line.rpartition(" [")
+    return [head, f"        [{premises}"]
+
+
+def tupled(thing):
+    """A thing as a key: lists of kids as tuples."""
+    return tuple(tupled(part) if isinstance(part, (tuple, list)) else part for part in thing)
+
+
+def main():
+    recipes = {}
+    for name, crate in CRATES.items():
+        text = (ROOT / "tools" / "recipes" / f"{name}.txt").read_text()
+        recipes[name] = Recipe(text, {other: recipes[other] for other in EARLIER.get(name, [])})
+        to = ROOT / "crates" / crate / "src" / f"{name}.rt"
+        to.write_text(Table(recipes[name]).written())
+
+
+if __name__ == "__main__":
+    main()
