@@ -1,5 +1,5 @@
 -- The first rows and nodes of a book, which name no others.
-use Rattle.std.proofs.Common.{◌≡◌, ℕ, zero, suc, ◌<◌, ◌≤◌, List, [], ◌∷◌, length, take, refl, sym, ◌∙◌, ap, ap₂, subst, arith, Option, Some, None}
+use Rattle.std.proofs.Common.{◌≡◌, ℕ, zero, suc, ◌<◌, ◌≤◌, List, [], ◌∷◌, length, take, refl, sym, ◌∙◌, ap, ap₂, subst, arith, Option, Some, None, IsSome, ◌↔◌}
 use Rattle.std.specs.Prelude.{slice_get, option_and_then}
 use Rattle.std.specs.List.{All}
 use Rattle.std.proofs.lemmas.Option.{slice_get_within}
@@ -9,13 +9,14 @@ use Rattle.trees.specs.Things.{Thing, Meanings, both, consed, meanings}
 use Rattle.trees.specs.Claimed.{judged, said}
 use Rattle.trees.proofs.Meanings.{meanings-cons}
 use Rattle.rows.proofs.OptionLaws.{one-some}
+use Rattle.rows.proofs.MeaningLaws.{is_some-value}
 use Rattle.rows.proofs.TableLaws.{slice_get-take, slice_get-same, length-built}
 use Rattle.interned.specs.Coded.{thing_of, things_coded}
 use Rattle.book.specs.Contents.{Contents}
 use Rattle.book.specs.declared.kernel.Mark.{Mark}
 use Rattle.book.specs.Nodes.{Node, node_coded, node_at, judgement_of, concluded}
 use Rattle.book.specs.Right.{IsRight, AreRight}
-use Rattle.book.specs.Shown.{NamesBelow, IsMark, Released}
+use Rattle.book.specs.Shown.{book_means, book_concludes, NamesBelow, IsMark, Released}
 
 pub slice_get-first : {X : Type 0} (n k : ℕ) (xs : List X) → k < n → slice_get (take n xs) k ≡ slice_get xs k
 slice_get-first n k xs lt = slice_get-same n k (take n xs) xs lt (take-take n n xs (omega arith))
@@ -142,6 +143,36 @@ mark-now b old is right rows nodes rows_are nodes_are =
       nodes_there = omega (arith, nodes_are);
       within = λ k node lt e. subst (λ n. NamesBelow n node) (sym rows_are) (names-there (things_coded old.rows) old.nodes right k node e);
     })
+
+-- each row that means something stands before it, and no other does
+rows-there : {X : Type 0} (xs : List X) (k : ℕ) → IsSome (slice_get xs k) ↔ (k < length xs)
+rows-there [] k = (λ some. cc, λ lt. absurd (omega arith))
+rows-there (x ∷ xs) zero = (λ some. omega arith, λ lt. refl)
+rows-there (x ∷ xs) (suc k) = let rest = rows-there xs k in (λ some. omega (arith, rest.0 some), λ lt. rest.1 (omega arith))
+
+pub rows-counted : (b old : Contents) → old ≡ b → (rows : ℕ) → rows ≡ length (things_coded old.rows) → (k : ℕ) → IsSome (book_means b k) ↔ (k < rows)
+rows-counted b old is rows rows_are k =
+    subst (λ (c : Contents). IsSome (book_means c k) ↔ (k < rows)) is (subst (λ n. IsSome (slice_get (things_coded old.rows) k) ↔ (k < n)) (sym rows_are) (rows-there (things_coded old.rows) k))
+
+nodes-there : (f : Meanings) (nodes : List (List ℕ)) → AreRight f nodes → (k : ℕ) → IsSome (concluded f nodes k) ↔ (k < length nodes)
+nodes-there f nodes right k = (within, λ lt. let words = is_some-value (slice_get nodes k) ((rows-there nodes k).1 lt) in there words.0 words.1)
+  where
+    within : IsSome (concluded f nodes k) → k < length nodes
+    within some =
+        let J = is_some-value (concluded f nodes k) some in
+        let o = one-some (judgement_of f) (node_at nodes k) J.0 J.1 in
+        let w = one-some node_coded (slice_get nodes k) o.first o.first_is in
+        slice_get_within nodes k w.first w.first_is
+
+    there : (words : List ℕ) → slice_get nodes k ≡ Some words → IsSome (concluded f nodes k)
+    there words at =
+        let r = right.each k words at in
+        let is : concluded f nodes k ≡ Some r.judgement = ap (λ o. option_and_then (judgement_of f) (option_and_then node_coded o)) at ∙ ap (option_and_then (judgement_of f)) r.is ∙ r.concludes in
+        rw is refl
+
+pub nodes-counted : (b old : Contents) → old ≡ b → AreRight (slice_get (things_coded old.rows)) old.nodes → (nodes : ℕ) → nodes ≡ length old.nodes → (k : ℕ) → IsSome (book_concludes b k) ↔ (k < nodes)
+nodes-counted b old is right nodes nodes_are k =
+    subst (λ (c : Contents). IsSome (book_concludes c k) ↔ (k < nodes)) is (subst (λ n. IsSome (concluded (slice_get (things_coded old.rows)) old.nodes k) ↔ (k < n)) (sym nodes_are) (nodes-there (slice_get (things_coded old.rows)) old.nodes right k))
 
 pub mark-within : (b old : Contents) (mark : Mark) → old ≡ b → IsMark b mark → mark.rows ≤ length (things_coded old.rows)
 mark-within b old mark is m =

@@ -201,7 +201,9 @@ impl Book {
 
     /// How many rows and nodes there are, to go back to.
     pub fn mark(&self) -> Mark
-        ensures { IsMark self.now result }
+        ensures mark { IsMark self.now result }
+        ensures rows { (k : ℕ) → IsSome (book_means self.now k) ↔ (k < result.rows) }
+        ensures nodes { (k : ℕ) → IsSome (book_concludes self.now k) ↔ (k < result.nodes) }
     {
         let rows = self.rows.len();
         let nodes = self.nodes.len();
