@@ -15,7 +15,8 @@ use Rattle.rows.proofs.TableLaws.{slice_get-take, length-built}
 use Rattle.rules.specs.Shifts.{ShiftFits}
 use Rattle.deriv_file.specs.declared.row.Row.{Row}
 use Rattle.deriv_file.specs.declared.row.Row.TheVariants as row
-use Rattle.deriv_file.specs.Spelling.{spelled}
+use Rattle.deriv_file.specs.Spelling.{spelled, newest}
+use Rattle.deriv_file.specs.Lines.{lines, SpellRows}
 use Rattle.derivation.specs.Meanings.{Meaning, Nothing, conclusion_at}
 use Rattle.derivation.specs.Right.{RightRows, Derives, root_of, roots_of}
 use Rattle.derivation.specs.Derivations.{Derivable}
@@ -31,7 +32,7 @@ use Rattle.book.specs.Shown.{book_means, book_concludes}
 use Rattle.book_writer.specs.Chains.{IsPlain, IsSpellable, Spelt}
 use Rattle.book_writer.specs.Spelling.{file_of, node_place, spelt_row, spelt_rows, spelt_nodes, spelt_book, spelt_file}
 use Rattle.book_writer.specs.Fits.{FileFits}
-use Rattle.book_writer.proofs.FileLaws.{file-derives}
+use Rattle.book_writer.proofs.FileLaws.{file-derives, file-spelt}
 use Rattle.book_writer.proofs.RowsLaws.{below, IsLive, rows-spelt, flat_map-append, right-length}
 use Rattle.book_writer.proofs.NodesLaws.{NodeLive, NodesSpelt, after-nodes, premises-at, conclusion-kept, root-right}
 
@@ -90,17 +91,31 @@ root-fit : (ks : List ℕ) → All IsSpellable (root_rows ks)
 root-fit [] = All-nil IsSpellable
 root-fit (k ∷ ks) = All-cons IsSpellable (row.Root k) (root_rows ks) tt (root-fit ks)
 
--- plain rows that are right, with these roots after them
-pub rooted-derives : (rows : List Row) (all : List Meaning) → RightRows [] rows all → All IsPlain rows → 0 < length rows → (ks : List ℕ) (Js : List Judgement) → meanings (conclusion_at all) ks ≡ Some Js → length (rows ++ root_rows ks) ≤ 2 ^ 64 → Derives (flat_map spelled (rows ++ root_rows ks)) (length (rows ++ root_rows ks)) Js
-rooted-derives rows all right plain some ks Js e few =
+-- plain rows that are right, with these roots after them, are right and have these roots
+pub record Rooted (rows : List Row) (ks : List ℕ) (Js : List Judgement) : Type 0 where
+  pub all : List Meaning
+  pub right : RightRows [] (rows ++ root_rows ks) all
+  pub fit : All IsSpellable (rows ++ root_rows ks)
+  pub roots : roots_of all (rows ++ root_rows ks) ≡ Js
+
+pub rooted : (rows : List Row) (all : List Meaning) → RightRows [] rows all → All IsPlain rows → 0 < length rows → (ks : List ℕ) (Js : List Judgement) → meanings (conclusion_at all) ks ≡ Some Js → Rooted rows ks Js
+rooted rows all right plain some ks Js e =
     let count : length all ≡ length rows = omega (arith, right-length [] rows all right) in
     let r = roots-right all (omega (arith, count)) ks Js e in
     let end : List Meaning = all ++ r.more in
-    let whole : RightRows [] (rows ++ root_rows ks) end = rows_whole [] rows (root_rows ks) all end right r.right in
-    let fit : All IsSpellable (rows ++ root_rows ks) = All-append IsSpellable rows (root_rows ks) (All-weaker IsPlain IsSpellable plain-fit rows plain) (root-fit ks) in
-    let roots : roots_of end (rows ++ root_rows ks) ≡ Js =
-    flat_map-append (root_of end) rows (root_rows ks) ∙ ap₂ (λ Ks Ls. Ks ++ Ls) (no-roots end rows plain) (root-list end ks Js r.roots) in
-    subst (λ Ks. Derives (flat_map spelled (rows ++ root_rows ks)) (length (rows ++ root_rows ks)) Ks) roots (file-derives (rows ++ root_rows ks) end whole fit few)
+    record {
+      all = end;
+      right = rows_whole [] rows (root_rows ks) all end right r.right;
+      fit = All-append IsSpellable rows (root_rows ks) (All-weaker IsPlain IsSpellable plain-fit rows plain) (root-fit ks);
+      roots = flat_map-append (root_of end) rows (root_rows ks) ∙ ap₂ (λ Ks Ls. Ks ++ Ls) (no-roots end rows plain) (root-list end ks Js r.roots);
+    }
+
+pub rooted-derives : (rows : List Row) (ks : List ℕ) (Js : List Judgement) → Rooted rows ks Js → length (rows ++ root_rows ks) ≤ 2 ^ 64 → Derives (flat_map spelled (rows ++ root_rows ks)) (length (rows ++ root_rows ks)) Js
+rooted-derives rows ks Js r few =
+    subst (λ Ks. Derives (flat_map spelled (rows ++ root_rows ks)) (length (rows ++ root_rows ks)) Ks) r.roots (file-derives (rows ++ root_rows ks) r.all r.right r.fit few)
+
+pub rooted-spelt : (rows : List Row) (ks : List ℕ) (Js : List Judgement) → Rooted rows ks Js → length (rows ++ root_rows ks) ≤ 2 ^ 64 → SpellRows newest 0 (lines (flat_map spelled (rows ++ root_rows ks))) (rows ++ root_rows ks)
+rooted-spelt rows ks Js r few = file-spelt (rows ++ root_rows ks) r.all r.right r.fit few
 
 -- the rows and the nodes of a book, each live or left out
 module _ (f : Meanings) (g : ℕ → Option Judgement) (rows nodes : List (List ℕ)) (rows_live : (k : ℕ) (words : List ℕ) → slice_get rows k ≡ Some words → IsLive f k words) (nodes_live : (k : ℕ) (words : List ℕ) → slice_get nodes k ≡ Some words → NodeLive f g k words) (rows_within : (k : ℕ) (x : Thing) → f k ≡ Some x → k < length rows) (nodes_within : (k : ℕ) (J : Judgement) → g k ≡ Some J → k < length nodes) where
@@ -137,8 +152,9 @@ module _ (f : Meanings) (g : ℕ → Option Judgement) (rows nodes : List (List 
       let at : ℕ → ℕ = node_place nodes (length (file_of known)) in
       let same : spelt_file rows nodes ks ≡ spelt_book rows nodes ++ root_rows (map at ks) = ap (λ rs. spelt_book rows nodes ++ rs) (map-map at ks) in
       subst (λ rs. Derives (flat_map spelled rs) (length rs) Js) (sym same)
-      (rooted-derives (spelt_book rows nodes) n.all n.right n.fit (omega (arith, length-append (file_of known) (spelt_nodes known nodes))) (map at ks) Js
-      (premises-at f g known nodes n.all (length nodes) n.conclusions ks Js (below-all ks Js e) e)
+      (rooted-derives (spelt_book rows nodes) (map at ks) Js
+      (rooted (spelt_book rows nodes) n.all n.right n.fit (omega (arith, length-append (file_of known) (spelt_nodes known nodes))) (map at ks) Js
+      (premises-at f g known nodes n.all (length nodes) n.conclusions ks Js (below-all ks Js e) e))
       (omega (arith, ap length same)))
 
 -- all of a book

@@ -53,7 +53,7 @@ nodes-earlier before few (k ∷ ks) Js e =
     let m = meanings-cons (conclusion_at before) k ks Js e in
     All-cons (Earlier (length before)) k ks (node-earlier before few k m.first m.first_is) (nodes-earlier before few ks m.rest m.rest_is)
 
-use-of : (before : List Meaning) (rule : RuleName) (parts premises : List ℕ) (J : Judgement) → RightNode before rule parts premises J → IsUse (thing_at before) (conclusion_at before) rule parts premises J
+pub use-of : (before : List Meaning) (rule : RuleName) (parts premises : List ℕ) (J : Judgement) → RightNode before rule parts premises J → IsUse (thing_at before) (conclusion_at before) rule parts premises J
 use-of before rule parts premises J n = record {
   things = n.xs;
   judgements = n.Js;
@@ -111,18 +111,22 @@ spell-rows before (r ∷ rows) all right fit few =
       subst (λ v. SpellRows v (length before + 1) (map spelled rows) rows) (sym (version-same r here)) (subst (λ n. SpellRows newest n (map spelled rows) rows) place rest),
     )
 
--- the file of right rows
+-- the file of right rows spells them
+pub file-spelt : (rows : List Row) (all : List Meaning) → RightRows [] rows all → All IsSpellable rows → length rows ≤ 2 ^ 64 → SpellRows newest 0 (lines (flat_map spelled rows)) rows
+file-spelt rows all right fit few =
+    let spell = spell-rows [] rows all right fit (omega arith) in
+    let are : lines (flat_map spelled rows) ≡ map spelled rows = lines_of_rows newest 0 rows spell in
+    subst (λ ls. SpellRows newest 0 ls rows) (sym are) spell
+
 pub file-derives : (rows : List Row) (all : List Meaning) → RightRows [] rows all → All IsSpellable rows → length rows ≤ 2 ^ 64 → Derives (flat_map spelled rows) (length rows) (roots_of all rows)
 file-derives rows all right fit few =
     let bytes : List ℕ = flat_map spelled rows in
-    let spell = spell-rows [] rows all right fit (omega arith) in
-    let are : lines bytes ≡ map spelled rows = lines_of_rows newest 0 rows spell in
     record {
       spelt = rows;
       all = all;
       begins = record {
         within = omega arith;
-        spelt = subst (λ ls. SpellRows newest 0 ls rows) (sym (take-length (lines bytes) ∙ are)) spell;
+        spelt = subst (λ ls. SpellRows newest 0 ls rows) (sym (take-length (lines bytes))) (file-spelt rows all right fit few);
         right = right;
       };
       rows_are = refl;

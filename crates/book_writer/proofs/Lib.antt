@@ -4,3 +4,15 @@ pub mod RowLaws
 pub mod RowsLaws
 pub mod NodesLaws
 pub mod BookLaws
+pub mod MeansLaws
+pub mod SubLaws
+pub mod LineLaws
+pub mod PushLaws
+pub mod CopyLaws
+pub mod NodeRows
+pub mod PlaceLaws
+pub mod MarkLaws
+pub mod MarksLaws
+pub mod NumberLaws
+pub mod WriteLaws
+pub mod TestLaws

@@ -1,3 +1,9 @@
 pub mod Chains
 pub mod Spelling
 pub mod Fits
+pub mod Held
+pub mod Means
+pub mod Pushed
+pub mod Names
+pub mod Served
+pub mod Written
