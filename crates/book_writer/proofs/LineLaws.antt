@@ -1,12 +1,10 @@
 -- Lines and their names, as rows of a file.
-use Rattle.std.proofs.Common.{◌≡◌, ℕ, zero, suc, ◌+◌, ◌<◌, ◌≤◌, List, [], ◌∷◌, ◌++◌, length, take, drop, map, refl, sym, ◌∙◌, ap, ap₂, subst, arith, Option, Some, length-append}
+use Rattle.std.proofs.Common.{◌≡◌, ℕ, zero, suc, ◌≤◌, List, [], ◌∷◌, ◌++◌, length, take, drop, map, refl, sym, ◌∙◌, ap, ap₂, subst, arith, Some, length-append}
 use Rattle.std.specs.Prelude.{slice_get, slice_index_or, Result, Ok, Err}
 use Rattle.std.specs.Result.{OnErr}
 use Rattle.std.specs.List.{All}
-use Rattle.std.proofs.lemmas.List.{append-nil, take_all, take-take}
+use Rattle.std.proofs.lemmas.List.{take_all, take-take}
 use Rattle.std.proofs.lemmas.List.Elements.{All-nil, All-cons, All-head, All-tail, All-append, All-weaker}
-use Rattle.theory.specs.declared.rule.RuleName.{RuleName}
-use Rattle.theory.specs.RuleNames.{kinds_of, premises_of}
 use Rattle.rows.proofs.TableLaws.{part-same, take-prefix}
 use Rattle.deriv_file.specs.declared.row.Row.{Row}
 use Rattle.deriv_file.specs.declared.row.Row.TheVariants as row

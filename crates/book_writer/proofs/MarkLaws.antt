@@ -1,6 +1,6 @@
 -- Marked rows that name marked rows alone are right, with numbers of their own.
-use Rattle.std.proofs.Common.{◌≡◌, ℕ, zero, suc, ◌+◌, ◌<◌, ◌≤◌, Bool, true, false, List, [], ◌∷◌, ◌++◌, length, take, map, refl, sym, ◌∙◌, ap, ap₂, subst, arith, Option, Some, None, length-append, append_assoc}
-use Rattle.std.specs.Prelude.{slice_get, option_and_then, count_by}
+use Rattle.std.proofs.Common.{◌≡◌, ℕ, zero, suc, ◌+◌, ◌<◌, Bool, true, false, List, [], ◌∷◌, ◌++◌, length, map, refl, sym, ◌∙◌, ap, ap₂, subst, arith, Option, Some, length-append, append_assoc}
+use Rattle.std.specs.Prelude.{slice_get, option_and_then}
 use Rattle.std.specs.List.{All}
 use Rattle.std.proofs.lemmas.Option.{slice_get_within}
 use Rattle.std.proofs.lemmas.List.{append-nil}
@@ -13,8 +13,8 @@ use Rattle.rows.proofs.MeaningLaws.{Mean, meanings-mean, both-mean}
 use Rattle.rows.proofs.TableLaws.{slice_get-next}
 use Rattle.deriv_file.specs.declared.row.Row.{Row}
 use Rattle.deriv_file.specs.declared.row.Row.TheVariants as row
-use Rattle.derivation.specs.Meanings.{Meaning, Nothing, thing_of, thing_at, conclusion_of, conclusion_at}
-use Rattle.derivation.specs.Right.{RightNode, RightRow, RightRows}
+use Rattle.derivation.specs.Meanings.{Meaning, thing_of, thing_at, conclusion_of, conclusion_at}
+use Rattle.derivation.specs.Right.{RightRow, RightRows}
 use Rattle.book_writer.specs.Names.{names_in, renamed, marked, number, numbered}
 
 -- marked items

@@ -1,24 +1,18 @@
 -- What rows of a file mean as rows are added, and what substitutions they spell.
-use Rattle.std.proofs.Common.{◌≡◌, ℕ, zero, suc, ◌+◌, ◌<◌, ◌≤◌, List, [], ◌∷◌, ◌++◌, length, refl, sym, ◌∙◌, ap, ap₂, subst, arith, Option, Some, None, length-append, append_assoc}
-use Rattle.std.specs.Prelude.{slice_get, option_and_then, IsSome}
-use Rattle.std.specs.List.{All}
-use Rattle.std.proofs.lemmas.Option.{slice_get_within}
+use Rattle.std.proofs.Common.{◌≡◌, ℕ, zero, suc, ◌+◌, List, [], ◌∷◌, ◌++◌, length, refl, sym, ◌∙◌, ap, ap₂, subst, arith, Some, length-append, append_assoc}
+use Rattle.std.specs.Prelude.{slice_get, option_and_then}
 use Rattle.std.proofs.lemmas.List.{append-nil}
-use Rattle.std.proofs.lemmas.List.Elements.{All-nil, All-cons, All-head, All-tail, All-append}
-use Rattle.trees.specs.Trees.{Tree, Trees, NoTrees, More, Subst, shift_by, push, without, greatest_shift}
+use Rattle.std.proofs.lemmas.List.Elements.{All-nil, All-cons, All-append}
 use Rattle.trees.specs.Judgements.{Judgement}
-use Rattle.trees.specs.Things.{Thing, ATree, ASubst, AContext, Meanings, Kept, both, made, meanings, instance_of, pushed_on, with_variable, with_a_name, with_a_face}
-use Rattle.rows.proofs.OptionLaws.{one-some, both-some}
+use Rattle.trees.specs.Things.{Thing, Kept}
 use Rattle.rows.proofs.TableLaws.{length-built, built-push, slice_get-next}
-use Rattle.rows.proofs.MeaningLaws.{is_some-value}
-use Rattle.rules.specs.Claims.{rule_over, conclusion_of as concluded_by}
 use Rattle.deriv_file.specs.declared.row.Row.{Row}
 use Rattle.deriv_file.specs.declared.row.Row.TheVariants as row
-use Rattle.derivation.specs.Meanings.{Meaning, Means, Concludes, Nothing, thing_of, thing_at, things_at, conclusion_of, conclusion_at}
-use Rattle.derivation.specs.Right.{thing_made, RightNode, RightRow, RightRows}
+use Rattle.derivation.specs.Meanings.{Meaning, Means, Concludes, thing_of, thing_at, conclusion_of, conclusion_at}
+use Rattle.derivation.specs.Right.{thing_made, RightRow, RightRows}
 use Rattle.derivation.proofs.PrefixLaws.{rows_whole}
 use Rattle.book_writer.specs.Chains.{IsPlain}
-use Rattle.book_writer.specs.Means.{means_some, concludes_some, meaning_after, meanings_in, lines_mean, lines_conclude, IsFile}
+use Rattle.book_writer.specs.Means.{means_some, meaning_after, meanings_in, lines_mean, lines_conclude, IsFile}
 use Rattle.book_writer.proofs.ChainLaws.{thing-kept, thing-right}
 use Rattle.book_writer.proofs.NodesLaws.{conclusion-kept}
 

@@ -1,10 +1,9 @@
 -- The numbers of marked rows, and rows that are written with them.
-use Rattle.std.proofs.Common.{◌≡◌, ℕ, zero, suc, ◌+◌, ◌<◌, ◌≤◌, nat_lt, Bool, true, false, cond, List, [], ◌∷◌, ◌++◌, length, get_or, take, drop, map, refl, sym, ◌∙◌, ap, ap₂, subst, arith, Some, append_assoc, add-one, length-append}
+use Rattle.std.proofs.Common.{◌≡◌, ℕ, zero, suc, ◌+◌, ◌<◌, ◌≤◌, Bool, true, false, cond, List, [], ◌∷◌, ◌++◌, length, take, map, refl, sym, ◌∙◌, ap, ap₂, subst, arith, Some, append_assoc, add-one, length-append}
 use Rattle.std.specs.Prelude.{slice_get, slice_index_or}
 use Rattle.std.specs.List.{All, flat_map}
 use Rattle.std.proofs.lemmas.List.{append-nil, take_all, take-map, drop-map, get_or_append_left, get_or_push}
-use Rattle.std.proofs.lemmas.List.Elements.{All-nil, All-head, All-tail, All-weaker}
-use borrow.Author.Tests.{ltb-true, ltb-false}
+use Rattle.std.proofs.lemmas.List.Elements.{All-head, All-tail, All-weaker}
 use Rattle.theory.specs.RuleNames.{kinds_of}
 use Rattle.deriv_file.specs.declared.row.Row.{Row}
 use Rattle.deriv_file.specs.declared.row.Row.TheVariants as row
@@ -13,7 +12,7 @@ use Rattle.book_writer.specs.declared.lines.RowHead.{RowHead}
 use Rattle.book_writer.specs.declared.lines.RowHead.TheVariants as head
 use Rattle.book_writer.specs.Held.{names_of, row_of}
 use Rattle.book_writer.specs.Means.{IsFile}
-use Rattle.book_writer.specs.Names.{names_in, renamed, marked, number, numbered, AreNumbers, written}
+use Rattle.book_writer.specs.Names.{names_in, renamed, marked, number, numbered, AreNumbers}
 use Rattle.book_writer.specs.Served.{IsMarked}
 use Rattle.book_writer.proofs.RowsLaws.{flat_map-append, up-to}
 use Rattle.book_writer.proofs.MarkLaws.{all-first, all-last}

@@ -1,5 +1,5 @@
 -- Rows and nodes of a book that stand in a file, as more of them come in.
-use Rattle.std.proofs.Common.{◌≡◌, ℕ, ◌+◌, ◌<◌, ◌≤◌, List, [], ◌∷◌, ◌++◌, length, map, refl, sym, ◌∙◌, ap, ap₂, subst, arith, Option, Some, None, IsSome, length-append}
+use Rattle.std.proofs.Common.{◌≡◌, ℕ, ◌<◌, List, [], ◌∷◌, ◌++◌, length, map, refl, sym, ◌∙◌, ap, ap₂, subst, arith, Option, Some, None, IsSome, length-append}
 use Rattle.std.specs.Prelude.{slice_get, slice_index_or}
 use Rattle.std.specs.List.{All}
 use Rattle.std.proofs.lemmas.Option.{slice_get_within}
@@ -7,7 +7,7 @@ use Rattle.std.proofs.lemmas.List.{get_or_append_left, get_or_push}
 use Rattle.std.proofs.lemmas.List.Elements.{All-nil, All-cons, All-head, All-tail}
 use Rattle.theory.specs.declared.rule.RuleName.{RuleName}
 use Rattle.trees.specs.Judgements.{Judgement}
-use Rattle.trees.specs.Things.{Thing, Meanings, Kept, both, consed, meanings}
+use Rattle.trees.specs.Things.{Meanings, Kept, both, consed, meanings}
 use Rattle.trees.proofs.Meanings.{meanings-cons}
 use Rattle.rows.proofs.OptionLaws.{one-some}
 use Rattle.deriv_file.specs.declared.row.Row.{Row}

@@ -2,7 +2,7 @@
 use Rattle.std.proofs.Common.{◌≡◌, ℕ, zero, suc, ◌+◌, ◌<◌, ◌≤◌, List, [], ◌∷◌, ◌++◌, length, refl, sym, ◌∙◌, ap, ap₂, subst, arith, Option, Some, None, append_assoc}
 use Rattle.std.specs.Prelude.{slice_index_or, IsSome}
 use Rattle.std.proofs.lemmas.List.{append-nil}
-use Rattle.trees.specs.Trees.{Tree, Trees, NoTrees, More, Subst, apply, shift_by, push, without, then, then_from, greatest_shift}
+use Rattle.trees.specs.Trees.{Tree, Trees, NoTrees, More, Subst, apply, shift_by, push, without, then_from, greatest_shift}
 use Rattle.trees.specs.Things.{Thing, ATree, ASubst, AContext, Meanings, Kept, both, instance_of, pushed_on, then_of}
 use Rattle.trees.proofs.Meanings.{kept-kept}
 use Rattle.deriv_file.specs.declared.row.Row.{Row}

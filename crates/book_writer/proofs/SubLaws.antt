@@ -1,12 +1,12 @@
 -- Rows of a file that are substitutions.
-use Rattle.std.proofs.Common.{◌≡◌, ℕ, zero, suc, ◌+◌, ◌<◌, ◌≤◌, List, [], ◌∷◌, ◌++◌, length, refl, sym, ◌∙◌, ap, ap₂, subst, arith, Option, Some, None}
+use Rattle.std.proofs.Common.{◌≡◌, ℕ, zero, suc, ◌<◌, ◌≤◌, List, [], ◌∷◌, ◌++◌, length, refl, sym, ◌∙◌, ap, ap₂, subst, arith, Some, None}
 use Rattle.std.specs.Prelude.{slice_get, option_and_then}
 use Rattle.std.specs.List.{All}
 use Rattle.std.proofs.lemmas.Option.{slice_get_within}
 use Rattle.std.proofs.lemmas.List.Elements.{All-head, All-tail}
 use Rattle.trees.specs.declared.kind.PartKind.TheVariants as part
-use Rattle.trees.specs.Trees.{Tree, Subst, shift_by, push, greatest_shift}
-use Rattle.trees.specs.Things.{Thing, ATree, ASubst, Meanings, kind_of, both, instance_of, pushed_on, with_variable, with_a_name, with_a_face}
+use Rattle.trees.specs.Trees.{Subst, shift_by, greatest_shift}
+use Rattle.trees.specs.Things.{Thing, ASubst, Meanings, instance_of, pushed_on, with_variable, with_a_name, with_a_face}
 use Rattle.rows.proofs.OptionLaws.{one-some, both-some}
 use Rattle.rows.proofs.TableLaws.{slice_get-next}
 use Rattle.rows.proofs.MeaningLaws.{both-kind, instance_of-kind, with_variable-kind, with_a_name-kind, with_a_face-kind}
@@ -19,7 +19,7 @@ use Rattle.book_writer.specs.Chains.{IsPlain}
 use Rattle.book_writer.specs.Means.{meanings_in, lines_mean, IsFile}
 use Rattle.book_writer.specs.Pushed.{PushedAt}
 use Rattle.book_writer.proofs.ChainLaws.{thing-kept}
-use Rattle.book_writer.proofs.RowLaws.{IsPush, is-push}
+use Rattle.book_writer.proofs.RowLaws.{is-push}
 use Rattle.book_writer.proofs.MeansLaws.{count-in, file-at}
 
 pub all-at : {X : Type 0} (P : X → Type 0) (xs : List X) (k : ℕ) (x : X) → All P xs → slice_get xs k ≡ Some x → P x

@@ -5,7 +5,7 @@ use Rattle.theory.specs.declared.rule.RuleName.TheVariants.{Naturals}
 use Rattle.theory.specs.declared.rule.NatRule.TheVariants.{NatU}
 use Rattle.trees.specs.Judgements.{Nil, Judgement, trees}
 use Rattle.trees.specs.Language.{Ctx, Tm}
-use Rattle.trees.specs.Things.{Thing, AContext, Meanings, both, consed, meanings}
+use Rattle.trees.specs.Things.{AContext, Meanings, both, consed, meanings}
 use Rattle.rules.specs.Rules.{rule_at}
 use Rattle.rules.specs.Shifts.{ShiftFits, ShiftsFit}
 use Rattle.rules.specs.Sides.{SideHolds}

@@ -1,5 +1,5 @@
 -- The marked rows of a file and its roots are a right file, and each row but the header serves a root.
-use Rattle.std.proofs.Common.{◌≡◌, ℕ, zero, suc, ◌+◌, ◌^◌, ◌<◌, ◌≤◌, nat_lt, Bool, true, false, List, [], ◌∷◌, ◌++◌, length, get_or, map, refl, sym, ◌∙◌, ap, ap₂, subst, arith, Some, length-append, append_assoc}
+use Rattle.std.proofs.Common.{◌≡◌, ℕ, zero, suc, ◌+◌, ◌^◌, ◌<◌, ◌≤◌, nat_lt, Bool, true, false, List, [], ◌∷◌, ◌++◌, length, map, refl, sym, ◌∙◌, ap, ap₂, subst, arith, Some, length-append, append_assoc}
 use Rattle.std.specs.Prelude.{slice_get, slice_index_or, option_and_then}
 use Rattle.std.specs.List.{All, Contains, flat_map}
 use Rattle.std.proofs.lemmas.Option.{slice_get_within, slice_get-get_or}
@@ -13,14 +13,14 @@ use Rattle.deriv_file.specs.declared.row.Row.{Row}
 use Rattle.deriv_file.specs.declared.row.Row.TheVariants as row
 use Rattle.deriv_file.specs.Spelling.{spelled}
 use Rattle.derivation.specs.Meanings.{Meaning, conclusion_of, conclusion_at}
-use Rattle.derivation.specs.Right.{RightRows, Derives}
+use Rattle.derivation.specs.Right.{RightRows}
 use Rattle.derivation.proofs.PrefixLaws.{all_right-from_derives}
 use Rattle.book_writer.specs.Chains.{IsPlain}
 use Rattle.book_writer.specs.Means.{meanings_in, lines_conclude, IsFile}
 use Rattle.book_writer.specs.Names.{names_in, renamed, marked, number, numbered, written, AreNumbers, Serves, is_root, is_named}
 use Rattle.book_writer.specs.Served.{IsMarked, Reached, asked, named, AreServed}
 use Rattle.book_writer.specs.Written.{IsWritten, Appends}
-use Rattle.book_writer.proofs.BookLaws.{root_rows, Rooted, rooted, rooted-derives, rooted-spelt}
+use Rattle.book_writer.proofs.BookLaws.{root_rows, rooted, rooted-derives, rooted-spelt}
 use Rattle.book_writer.proofs.MeansLaws.{count-in}
 use Rattle.book_writer.proofs.SubLaws.{there-at}
 use Rattle.book_writer.proofs.LineLaws.{get-map}

@@ -1,5 +1,5 @@
 -- Rows of a file as they are held: what each is, and beside it the numbers of the rows it names.
-use Rattle.std.specs.Prelude.{◌≤◌, ◌+◌, ℕ, List, [], ◌∷◌, length, take, drop}
+use Rattle.std.specs.Prelude.{◌≤◌, ◌+◌, ℕ, List, ◌∷◌, length, take, drop}
 use Rattle.trees.specs.Operators.{kids_of}
 use Rattle.theory.specs.RuleNames.{kinds_of, premises_of}
 use Rattle.deriv_file.specs.declared.row.Row.{Row}

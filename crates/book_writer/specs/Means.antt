@@ -1,9 +1,9 @@
 -- What the rows of a file mean that is being made.
 use Rattle.std.specs.Prelude.{◌≡◌, ◌<◌, ℕ, List, [], length, Option, Some, None}
-use Rattle.std.specs.Prelude.{option_and_then, slice_index_or}
+use Rattle.std.specs.Prelude.{slice_index_or}
 use Rattle.std.specs.List.{All}
 use Rattle.trees.specs.Judgements.{Judgement}
-use Rattle.trees.specs.Things.{Thing, Meanings, meanings}
+use Rattle.trees.specs.Things.{Thing, Meanings}
 use Rattle.rows.specs.Tables.{built}
 use Rattle.rules.specs.Claims.{rule_over, conclusion_of as concluded_by}
 use Rattle.deriv_file.specs.declared.row.Row.{Row}

@@ -1,9 +1,9 @@
-use Rattle.std.proofs.Common.{◌≡◌, ◌<◌, ◌∙◌, List, ℕ, Some, length, sym, subst, arith}
+use Rattle.std.proofs.Common.{◌<◌, ◌∙◌, ℕ, length, sym, subst, arith}
 use Rattle.std.specs.List.{All}
 use Rattle.rows.proofs.MeaningLaws.{is_some-value}
 use Rattle.book.specs.Shown.{book_means, book_concludes}
 use Rattle.book.proofs.NodeLaws.{use-counts, few_cells}
-use Rattle.book_writer.proofs.PlaceLaws.{all-low, node-copied, node-right}
+use Rattle.book_writer.proofs.PlaceLaws.{all-low, node-right}
 use Rattle.book_writer.proofs.copies.add_node.Goals as goal
 
 pub placed-parts-requires-clause-few : goal.placed-parts-requires-clause-few

@@ -1,4 +1,4 @@
-use Rattle.std.proofs.Common.{◌≡◌, ◌∙◌, List, ℕ, [], ◌∷◌, length, sym, ap, subst, arith, length-append}
+use Rattle.std.proofs.Common.{◌∙◌, List, ℕ, [], ◌∷◌, length, sym, ap, subst, arith, length-append}
 use Rattle.book.specs.Shown.{book_means, book_concludes}
 use Rattle.book_writer.specs.Means.{AreConcluded}
 use Rattle.book_writer.proofs.PlaceLaws.{placed-kept, concluded-none, concluded-more}

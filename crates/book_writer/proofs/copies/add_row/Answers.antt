@@ -1,5 +1,5 @@
-use Rattle.std.proofs.Common.{◌≡◌, ◌+◌, ◌<◌, ◌∙◌, ℕ, List, Option, Some, IsSome, length, sym, ap, subst, arith}
-use Rattle.std.specs.Prelude.{slice_index_or, option_and_then}
+use Rattle.std.proofs.Common.{◌≡◌, ◌+◌, ◌<◌, ◌∙◌, ℕ, List, Option, Some, IsSome, sym, ap, subst, arith}
+use Rattle.std.specs.Prelude.{option_and_then}
 use Rattle.std.specs.List.{All}
 use Rattle.trees.specs.Trees.{shift_by}
 use Rattle.trees.specs.Things.{Thing, ASubst, made, meanings, instance_of, pushed_on, then_of, with_variable, with_a_name, with_a_face}

@@ -1,4 +1,4 @@
-use Rattle.std.proofs.Common.{◌≡◌, ◌∙◌, List, ℕ, [], ◌∷◌, length, sym, ap, subst, arith, length-append}
+use Rattle.std.proofs.Common.{◌∙◌, List, ℕ, [], ◌∷◌, length, sym, ap, subst, arith, length-append}
 use Rattle.book.specs.Shown.{book_means}
 use Rattle.book_writer.specs.Means.{ArePlaced}
 use Rattle.book_writer.proofs.PlaceLaws.{placed-none, placed-more}

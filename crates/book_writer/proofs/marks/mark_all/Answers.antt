@@ -1,4 +1,3 @@
-use Rattle.std.proofs.Common.{arith}
 use Rattle.book_writer.proofs.MarksLaws.{marks-none, marks-more, marks-all}
 use Rattle.book_writer.proofs.marks.mark_all.Goals as goal
 

@@ -1,7 +1,5 @@
-use Rattle.std.proofs.Common.{◌≡◌, ◌∙◌, refl, sym, ap, ap₂, take, drop}
-use Rattle.deriv_file.specs.declared.row.Row.TheVariants as row
+use Rattle.std.proofs.Common.{refl}
 use Rattle.book_writer.specs.declared.lines.RowHead.TheVariants as head
-use Rattle.book_writer.specs.Held.{row_of}
 use Rattle.book_writer.proofs.NumberLaws.{pair-row, one-row}
 use Rattle.book_writer.proofs.numbering.file_row.Goals as goal
 

@@ -1,4 +1,4 @@
-use Rattle.std.proofs.Common.{◌≡◌, ◌+◌, ◌∙◌, List, ℕ, false, get_or, sym, ap, subst, arith}
+use Rattle.std.proofs.Common.{◌+◌, ◌∙◌, List, ℕ, false, get_or, sym, subst, arith}
 use Rattle.std.proofs.lemmas.Option.{slice_get-get_or}
 use Rattle.book_writer.proofs.NumberLaws.{number-most, Counted, counted-none, counted-more}
 use Rattle.book_writer.proofs.numbering.numbers.Goals.{then-marked, else-marked}

@@ -1,8 +1,6 @@
-use Rattle.std.proofs.Common.{◌≡◌, ◌∙◌, List, ℕ, Some, IsSome, length, refl, sym, ap, subst, arith}
+use Rattle.std.proofs.Common.{length, refl}
 use Rattle.rows.proofs.MeaningLaws.{is_some-value}
-use Rattle.trees.specs.Things.{meanings}
 use Rattle.book.specs.Shown.{book_concludes}
-use Rattle.book_writer.specs.Means.{lines_conclude}
 use Rattle.book_writer.specs.Written.{concluded_by}
 use Rattle.book_writer.proofs.PlaceLaws.{roots-held, roots-low}
 use Rattle.book_writer.proofs.writer.append.Goals as goal

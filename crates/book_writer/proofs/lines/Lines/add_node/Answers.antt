@@ -1,11 +1,7 @@
-use Rattle.std.proofs.Common.{◌≡◌, ◌∙◌, ◌++◌, List, ℕ, Some, length, take, drop, sym, ap, ap₂, subst, arith, length-append}
-use Rattle.std.proofs.lemmas.List.{take_all}
+use Rattle.std.proofs.Common.{◌∙◌, ◌++◌, List, length, sym, ap, ap₂, subst, arith, length-append}
 use Rattle.trees.specs.Things.{Kept}
-use Rattle.trees.specs.Judgements.{Judgement}
-use Rattle.derivation.specs.Right.{RightNode}
 use Rattle.deriv_file.specs.declared.row.Row.{Row}
-use Rattle.book_writer.specs.Held.{row_of}
-use Rattle.book_writer.specs.Means.{IsFile, meanings_in, lines_mean, lines_conclude, ConclusionsKept}
+use Rattle.book_writer.specs.Means.{IsFile, lines_mean, lines_conclude, ConclusionsKept}
 use Rattle.book_writer.proofs.MeansLaws.{lines-kept, conclusions-kept}
 use Rattle.book_writer.proofs.NodeRows.{node-counts, node-row-right, node-row-concludes}
 use Rattle.book_writer.proofs.lines.Lines.add_node.Goals as goal

@@ -1,4 +1,4 @@
-use Rattle.std.proofs.Common.{◌≡◌, ◌∙◌, sym, ap₂, subst, List}
+use Rattle.std.proofs.Common.{◌∙◌, sym, ap₂, subst, List}
 use Rattle.trees.specs.Things.{Kept}
 use Rattle.rows.proofs.MeaningLaws.{is_some-value}
 use Rattle.derivation.specs.Right.{thing_made}

@@ -1,14 +1,11 @@
-use Rattle.std.proofs.Common.{◌≡◌, ◌∙◌, ◌++◌, List, ℕ, Some, length, map, sym, ap, ap₂, subst, arith}
+use Rattle.std.proofs.Common.{◌≡◌, ◌∙◌, ◌++◌, ℕ, Some, length, sym, ap, subst, arith}
 use Rattle.std.specs.Prelude.{slice_index_or}
-use Rattle.std.specs.List.{All}
 use Rattle.std.proofs.lemmas.List.{length-map}
-use Rattle.std.proofs.lemmas.List.Elements.{All-weaker}
 use Rattle.deriv_file.specs.Spelling.{spelled}
 use Rattle.deriv_file.specs.declared.row.Row.{Row}
-use Rattle.book_writer.specs.Held.{row_of, names_of}
+use Rattle.book_writer.specs.Held.{row_of}
 use Rattle.book_writer.specs.Means.{IsFile}
 use Rattle.book_writer.specs.Names.{renamed}
-use Rattle.book_writer.proofs.MarksLaws.{names-below, names-row}
 use Rattle.book_writer.proofs.NumberLaws.{line-names, renamed-row}
 use Rattle.book_writer.proofs.lines.Lines.append_row.Goals as goal
 

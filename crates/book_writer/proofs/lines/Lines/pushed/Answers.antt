@@ -1,6 +1,4 @@
-use Rattle.std.proofs.Common.{◌≡◌, ◌++◌, ◌∷◌, [], List, ℕ, Some, sym, subst}
-use Rattle.trees.specs.Trees.{Subst}
-use Rattle.trees.specs.Things.{ASubst}
+use Rattle.std.proofs.Common.{List, ℕ, sym, subst}
 use Rattle.book_writer.specs.Means.{lines_mean}
 use Rattle.book_writer.proofs.PushLaws.{Walk, walk-on, walk-end}
 use Rattle.book_writer.proofs.lines.Lines.pushed.Goals as goal

@@ -1,4 +1,4 @@
-use Rattle.std.proofs.Common.{◌≡◌, ◌∙◌, List, Bool, false, length, replicate, sym, ap, subst, arith}
+use Rattle.std.proofs.Common.{◌∙◌, List, Bool, false, replicate, sym, ap, subst, arith}
 use Rattle.std.proofs.lemmas.List.{with_items_is}
 use Rattle.book_writer.specs.Served.{AreServed}
 use Rattle.book_writer.proofs.lines.Lines.served.Goals as goal

@@ -3,7 +3,7 @@ use Rattle.trees.specs.Things.{ASubst, Kept}
 use Rattle.trees.proofs.Meanings.{kept-same}
 use Rattle.deriv_file.specs.declared.row.Row.{Row}
 use Rattle.book_writer.specs.Means.{lines_mean}
-use Rattle.book_writer.proofs.PushLaws.{passed-none, passed-on, passed-end, passed-shift}
+use Rattle.book_writer.proofs.PushLaws.{passed-on, passed-end, passed-shift}
 use Rattle.book_writer.proofs.lines.Lines.without.Goals as goal
 
 pub sub_line-requires : goal.sub_line-requires

@@ -1,7 +1,7 @@
-use Rattle.std.proofs.Common.{◌≡◌, ◌-◌, ◌∙◌, suc, length, Some, refl, sym, ap, subst, arith}
+use Rattle.std.proofs.Common.{◌≡◌, ◌-◌, suc, length, refl, arith}
 use Rattle.std.proofs.lemmas.Grind.{common_steps}
 use Rattle.book_writer.specs.Means.{lines_mean}
-use Rattle.book_writer.proofs.PushLaws.{Left, two-there, left-all, next-instance, next-push, left-on, left-none}
+use Rattle.book_writer.proofs.PushLaws.{two-there, left-all, next-instance, next-push, left-on, left-none}
 use Rattle.book_writer.proofs.makes.LinesMaker.then.Goals as goal
 
 pub loop-left-init : goal.loop-left-init
