@@ -8,7 +8,7 @@ use Rattle.trees.specs.Language.{Ctx, Tm}
 use Rattle.trees.specs.Things.{AContext, Meanings, both, consed, meanings}
 use Rattle.rules.specs.Rules.{rule_at}
 use Rattle.rules.specs.Shifts.{ShiftFits, ShiftsFit}
-use Rattle.rules.specs.Sides.{SideHolds}
+use Rattle.conditions.specs.Sides.{SideHolds}
 use Rattle.rules.specs.Table.{nat, universe}
 use Rattle.book.specs.Right.{IsUse}
 
