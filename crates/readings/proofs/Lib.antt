@@ -1,0 +1,9 @@
+pub mod Spelling
+pub mod Others
+pub mod FormLaws
+pub mod Steps
+pub mod Definitions
+pub mod Openings
+pub mod Applied
+pub mod Slices
+pub mod NatLaws
