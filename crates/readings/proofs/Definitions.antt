@@ -32,7 +32,7 @@ defined_resolves s t u v w x bs bs' T T' block block' B B' first type opens inne
     let both = resolves_two (λ p q. (p, q)) t u y T T' (after block B) (after block' B') type body in
     let z = cut_to y (length s.names) in
     let all = resolves_under (λ A p. (pi A p.0, lam A p.1)) s t y z bs bs' (λ G. T G >>= λ p. after block B G >>= λ q. done (p, q)) (λ H. T' H >>= λ p. after block' B' H >>= λ q. done (p, q))
-        first.extends first.definitions both refl in
+    first.extends first.definitions both refl in
     let reached : Extends s v = extends_then s t v first.extends (extends_then t u v (extends_kept t u type.keeps) opens.extends) in
     settled s z x (defined bs T block B) (defined bs' T' (λ G. done G) (after block' B')) (keeps_cut s v w x reached inner.keeps cut).names (ap (λ k. k.so_far) cut) all
 
@@ -51,10 +51,10 @@ module _ (bytes : List ℕ) where
       let means = means_of bytes d in
       let code = defined (map binder bs) (meaning T) (λ G. done G) (after (definitions cs) (meaning B)) in
       let resolved : Resolves s x means code =
-          defined_resolves s t u v w x (binders_of bytes (tele_items given.teles)) (map binder bs) (term_of bytes given.ty) (meaning T)
-          (block_of bytes (def_items given.locals)) (definitions cs) (term_of bytes given.body) (meaning B)
-          (subst (λ q. Binds s t (binders_of bytes q) (map binder bs)) i binds) (subst (λ q. Resolves t u (term_of bytes q) (meaning T)) k type)
-          (subst (λ q. Opens u v (block_of bytes q) (definitions cs)) j opens) (subst (λ q. Resolves v w (term_of bytes q) (meaning B)) l inner) (marked s w x mark cut) in
+      defined_resolves s t u v w x (binders_of bytes (tele_items given.teles)) (map binder bs) (term_of bytes given.ty) (meaning T)
+      (block_of bytes (def_items given.locals)) (definitions cs) (term_of bytes given.body) (meaning B)
+      (subst (λ q. Binds s t (binders_of bytes q) (map binder bs)) i binds) (subst (λ q. Resolves t u (term_of bytes q) (meaning T)) k type)
+      (subst (λ q. Opens u v (block_of bytes q) (definitions cs)) j opens) (subst (λ q. Resolves v w (term_of bytes q) (meaning B)) l inner) (marked s w x mark cut) in
       let made : definition c ≡ define number code = makes ∙ ap (λ q. define number (defined (map binder bs) (meaning T) (λ G. done G) q)) whole in
       let one : suc x.so_far.next ≡ x.so_far.next + 1 = omega arith in
       subst (λ q. Defines s y q means (definition c)) (sym numbered)

@@ -58,13 +58,13 @@ written_line bytes {s = s} {u = u} {v = v} x xs e B C O mark count first rest in
     let g = meaning B in
     let r = bound_to s w binding.Interval in
     let here : Resolves (all_bound_to r ws binding.Interval) u f g =
-        subst (λ q. Resolves q u f g) (rest ∙ ap (λ q. all_bound_to q ws binding.Interval) first) inner in
+    subst (λ q. Resolves q u f g) (rest ∙ ap (λ q. all_bound_to q ws binding.Interval) first) inner in
     let whole = resolves_under_names s u v (w ∷ ws) f g here (marked s u v mark cut) in
     let y = cut_to u (length r.names) in
     let inside = resolves_under_names r u y ws f g here refl in
     let last = resolves_in_interval s y (cut_to y (length s.names)) w (under_names ws f) (under_names (replicate (length ws) 0) g) inside refl in
     let settles = settled s (cut_to y (length s.names)) v (λ G. under_names ws f (Interval w ∷ G)) (λ H. under_names (replicate (length ws) 0) g (Interval 0 ∷ H))
-        whole.keeps.names (ap (λ q. q.so_far) cut) last in
+    whole.keeps.names (ap (λ q. q.so_far) cut) last in
     let spelt : Means Word Tree = λ G. under_names ws f (Interval w ∷ G) in
     subst (λ o. Resolves s v spelt (at_name o)) (sym opened)
     (subst (λ z. Resolves s v spelt (λ H. z (Interval 0 ∷ H))) (sym makes)
@@ -97,7 +97,7 @@ written_motive bytes {s = s} {t = t} {u = u} {v = v} {n = n} x xs ts e bs B C D 
     let named = binds_more s s s q [] [] (w ∷ ws) (λ G. done universe) (λ H. done universe) (binds_none s) (resolves_done s universe) refl in
     let reached : Extends s t = extends_then s q t named.extends here.extends in
     let settles = settled s c v (λ G. over lam ws nat (under lam bs' h) (Variable w nat ∷ G)) (λ H. over lam (replicate (length ws) 0) nat (under lam cs g) (Variable 0 nat ∷ H))
-        (keeps_cut s t u v reached inner.keeps (marked s u v mark cut)).names (ap (λ z. z.so_far) cut) last in
+    (keeps_cut s t u v reached inner.keeps (marked s u v mark cut)).names (ap (λ z. z.so_far) cut) last in
     subst (λ o. Resolves s v f (at_variable o)) (sym opened)
     (subst (λ z. Resolves s v f (λ H. z (Variable 0 nat ∷ H))) (sym more)
     (subst (λ z. Resolves s v f (λ H. over lam (replicate n 0) nat z (Variable 0 nat ∷ H))) (sym makes)

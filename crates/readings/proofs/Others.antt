@@ -43,25 +43,25 @@ module _ (bytes : List ℕ) where
 
   kind_of : (e : Exp) → Kind bytes e
   kind_of e = subst (Kind bytes) (roll-out-Exp e) (elim (out-Exp e) as (λ x. Kind bytes (roll-Exp x)) [
-      | Exp-F.Let a b c ↦ subst (Kind bytes) (sym (rolls-Let a b c)) (plain_form (record { line = refl; motive = refl; pair = λ at. refl; is_nat = λ G. refl }))
-      | Exp-F.Lambda a b c ↦ a_lambda a b c (rolls-Lambda a b c)
-      | Exp-F.PathLambda a b c ↦ a_path a b c (rolls-PathLambda a b c)
-      | Exp-F.Pi a b c ↦ subst (Kind bytes) (sym (rolls-Pi a b c)) (plain_form (record { line = refl; motive = refl; pair = λ at. refl; is_nat = λ G. refl }))
-      | Exp-F.Sigma a b c ↦ subst (Kind bytes) (sym (rolls-Sigma a b c)) (plain_form (record { line = refl; motive = refl; pair = λ at. refl; is_nat = λ G. refl }))
-      | Exp-F.Arrow a b c ↦ subst (Kind bytes) (sym (rolls-Arrow a b c)) (plain_form (record { line = refl; motive = refl; pair = λ at. refl; is_nat = λ G. refl }))
-      | Exp-F.Apply a b c ↦ subst (Kind bytes) (sym (rolls-Apply a b c)) (plain_form (subst (λ t. Plain (reading bytes t)) (sym (tree_of_apply a b c)) (plain_apply a (tree_of b.value) (elements_of c))))
-      | Exp-F.PathP a b c d ↦ subst (Kind bytes) (sym (rolls-PathP a b c d)) (plain_form (record { line = refl; motive = refl; pair = λ at. refl; is_nat = λ G. refl }))
-      | Exp-F.Comp a b c d ↦ subst (Kind bytes) (sym (rolls-Comp a b c d)) (plain_form (record { line = refl; motive = refl; pair = λ at. refl; is_nat = λ G. refl }))
-      | Exp-F.Fill a b c d ↦ subst (Kind bytes) (sym (rolls-Fill a b c d)) (plain_form (record { line = refl; motive = refl; pair = λ at. refl; is_nat = λ G. refl }))
-      | Exp-F.Transport a b c ↦ subst (Kind bytes) (sym (rolls-Transport a b c)) (plain_form (record { line = refl; motive = refl; pair = λ at. refl; is_nat = λ G. refl }))
-      | Exp-F.GlueType a b c ↦ subst (Kind bytes) (sym (rolls-GlueType a b c)) (plain_form (record { line = refl; motive = refl; pair = λ at. refl; is_nat = λ G. refl }))
-      | Exp-F.GlueTerm a b c ↦ subst (Kind bytes) (sym (rolls-GlueTerm a b c)) (plain_form (record { line = refl; motive = refl; pair = λ at. refl; is_nat = λ G. refl }))
-      | Exp-F.Unglue a b c ↦ subst (Kind bytes) (sym (rolls-Unglue a b c)) (plain_form (record { line = refl; motive = refl; pair = λ at. refl; is_nat = λ G. refl }))
-      | Exp-F.Project a b c ↦ subst (Kind bytes) (sym (rolls-Project a b c)) (plain_form (record { line = refl; motive = refl; pair = λ at. refl; is_nat = λ G. refl }))
-      | Exp-F.Universe a ↦ subst (Kind bytes) (sym (rolls-Universe a)) (plain_form (record { line = refl; motive = refl; pair = λ at. refl; is_nat = λ G. refl }))
-      | Exp-F.Name a ↦ a_name a (rolls-Name a)
-      | Exp-F.Brackets a b ↦ in_brackets a b (rolls-Brackets a b)
-    ])
+    | Exp-F.Let a b c ↦ subst (Kind bytes) (sym (rolls-Let a b c)) (plain_form (record { line = refl; motive = refl; pair = λ at. refl; is_nat = λ G. refl }))
+    | Exp-F.Lambda a b c ↦ a_lambda a b c (rolls-Lambda a b c)
+    | Exp-F.PathLambda a b c ↦ a_path a b c (rolls-PathLambda a b c)
+    | Exp-F.Pi a b c ↦ subst (Kind bytes) (sym (rolls-Pi a b c)) (plain_form (record { line = refl; motive = refl; pair = λ at. refl; is_nat = λ G. refl }))
+    | Exp-F.Sigma a b c ↦ subst (Kind bytes) (sym (rolls-Sigma a b c)) (plain_form (record { line = refl; motive = refl; pair = λ at. refl; is_nat = λ G. refl }))
+    | Exp-F.Arrow a b c ↦ subst (Kind bytes) (sym (rolls-Arrow a b c)) (plain_form (record { line = refl; motive = refl; pair = λ at. refl; is_nat = λ G. refl }))
+    | Exp-F.Apply a b c ↦ subst (Kind bytes) (sym (rolls-Apply a b c)) (plain_form (subst (λ t. Plain (reading bytes t)) (sym (tree_of_apply a b c)) (plain_apply a (tree_of b.value) (elements_of c))))
+    | Exp-F.PathP a b c d ↦ subst (Kind bytes) (sym (rolls-PathP a b c d)) (plain_form (record { line = refl; motive = refl; pair = λ at. refl; is_nat = λ G. refl }))
+    | Exp-F.Comp a b c d ↦ subst (Kind bytes) (sym (rolls-Comp a b c d)) (plain_form (record { line = refl; motive = refl; pair = λ at. refl; is_nat = λ G. refl }))
+    | Exp-F.Fill a b c d ↦ subst (Kind bytes) (sym (rolls-Fill a b c d)) (plain_form (record { line = refl; motive = refl; pair = λ at. refl; is_nat = λ G. refl }))
+    | Exp-F.Transport a b c ↦ subst (Kind bytes) (sym (rolls-Transport a b c)) (plain_form (record { line = refl; motive = refl; pair = λ at. refl; is_nat = λ G. refl }))
+    | Exp-F.GlueType a b c ↦ subst (Kind bytes) (sym (rolls-GlueType a b c)) (plain_form (record { line = refl; motive = refl; pair = λ at. refl; is_nat = λ G. refl }))
+    | Exp-F.GlueTerm a b c ↦ subst (Kind bytes) (sym (rolls-GlueTerm a b c)) (plain_form (record { line = refl; motive = refl; pair = λ at. refl; is_nat = λ G. refl }))
+    | Exp-F.Unglue a b c ↦ subst (Kind bytes) (sym (rolls-Unglue a b c)) (plain_form (record { line = refl; motive = refl; pair = λ at. refl; is_nat = λ G. refl }))
+    | Exp-F.Project a b c ↦ subst (Kind bytes) (sym (rolls-Project a b c)) (plain_form (record { line = refl; motive = refl; pair = λ at. refl; is_nat = λ G. refl }))
+    | Exp-F.Universe a ↦ subst (Kind bytes) (sym (rolls-Universe a)) (plain_form (record { line = refl; motive = refl; pair = λ at. refl; is_nat = λ G. refl }))
+    | Exp-F.Name a ↦ a_name a (rolls-Name a)
+    | Exp-F.Brackets a b ↦ in_brackets a b (rolls-Brackets a b)
+  ])
 
   -- the forms that are opened
 
@@ -95,45 +95,45 @@ module _ (bytes : List ℕ) where
       → line_of bytes e ≡ applied_to_name (term_of bytes e)
   unfolding line_of term_of read
   other_line e inside path = elim (kind_of e) [
-      | a_name s h ↦ rw h (name_line s)
-      | a_path s ns p h ↦ absurd (path s ns p h)
-      | a_lambda s xs p h ↦ rw h (lambda_line s xs p)
-      | in_brackets s es h ↦ absurd (inside s es h)
-      | plain_form k ↦ k.line
-    ]
+    | a_name s h ↦ rw h (name_line s)
+    | a_path s ns p h ↦ absurd (path s ns p h)
+    | a_lambda s xs p h ↦ rw h (lambda_line s xs p)
+    | in_brackets s es h ↦ absurd (inside s es h)
+    | plain_form k ↦ k.line
+  ]
 
   pub other_motive : (e : Exp) → ((s : Span) (es : Exps) → e ≡ Brackets_ s es → ⊥) → ((s : Span) (ns : List Span) (p : Box Exp Global) → e ≡ PathLambda_ s ns p → ⊥)
       → ((s : Span) (xs : Teles) (p : Box Exp Global) → e ≡ Lambda_ s xs p → ⊥) → applied_to_variable (term_of bytes e) ≡ motive_of bytes e
   unfolding motive_of term_of read
   other_motive e inside path lambda = elim (kind_of e) [
-      | a_name s h ↦ rw h (sym (name_motive s))
-      | a_path s ns p h ↦ absurd (path s ns p h)
-      | a_lambda s xs p h ↦ absurd (lambda s xs p h)
-      | in_brackets s es h ↦ absurd (inside s es h)
-      | plain_form k ↦ sym k.motive
-    ]
+    | a_name s h ↦ rw h (sym (name_motive s))
+    | a_path s ns p h ↦ absurd (path s ns p h)
+    | a_lambda s xs p h ↦ absurd (lambda s xs p h)
+    | in_brackets s es h ↦ absurd (inside s es h)
+    | plain_form k ↦ sym k.motive
+  ]
 
   pub other_pair : (at : ℕ) (e : Exp) → ((s : Span) (es : Exps) → e ≡ Brackets_ s es → ⊥) → ((s : Span) (ns : List Span) (p : Box Exp Global) → e ≡ PathLambda_ s ns p → ⊥)
       → no_pair_of bytes at e ≡ pair_of bytes at e
   unfolding pair_of no_pair_of term_of read
   other_pair at e inside path = elim (kind_of e) [
-      | a_name s h ↦ rw h (name_pair at s)
-      | a_path s ns p h ↦ absurd (path s ns p h)
-      | a_lambda s xs p h ↦ rw h (lambda_pair at s xs p)
-      | in_brackets s es h ↦ absurd (inside s es h)
-      | plain_form k ↦ sym (k.pair at)
-    ]
+    | a_name s h ↦ rw h (name_pair at s)
+    | a_path s ns p h ↦ absurd (path s ns p h)
+    | a_lambda s xs p h ↦ rw h (lambda_pair at s xs p)
+    | in_brackets s es h ↦ absurd (inside s es h)
+    | plain_form k ↦ sym (k.pair at)
+  ]
 
   pub other_nat : (e : Exp) → ((s : Span) → e ≡ Name_ s → ⊥) → ((s : Span) (es : Exps) → e ≡ Brackets_ s es → ⊥)
       → ((s : Span) (ns : List Span) (p : Box Exp Global) → e ≡ PathLambda_ s ns p → ⊥) → (G : Scope Word) → is_nat_of bytes e G ≡ false
   unfolding is_nat_of read
   other_nat e name inside path G = elim (kind_of e) [
-      | a_name s h ↦ absurd (name s h)
-      | a_path s ns p h ↦ absurd (path s ns p h)
-      | a_lambda s xs p h ↦ rw h (lambda_nat s xs p G)
-      | in_brackets s es h ↦ absurd (inside s es h)
-      | plain_form k ↦ k.is_nat G
-    ]
+    | a_name s h ↦ absurd (name s h)
+    | a_path s ns p h ↦ absurd (path s ns p h)
+    | a_lambda s xs p h ↦ rw h (lambda_nat s xs p G)
+    | in_brackets s es h ↦ absurd (inside s es h)
+    | plain_form k ↦ k.is_nat G
+  ]
 
   -- brackets round one expression, and names of the interval where there are none, are seen through
 
@@ -265,7 +265,7 @@ module _ (bytes : List ℕ) where
   tele_motive : (y : Tele) (ys : List Tele) (b : Exp) (G : Scope Word) (v : Bool) → is_nat_of bytes y.ty G ≡ v
       → motive_reading (teles bytes (tree_list tele_of (y ∷ ys))) (reading bytes (tree_of b)) G
       ≡ (let whole = applied_to_variable (under lam (binders_of bytes (y ∷ ys)) (term_of bytes b)) in
-        if v then opened (words_of bytes y.names) (under lam (binders_of bytes ys) (term_of bytes b)) whole G else whole G)
+      if v then opened (words_of bytes y.names) (under lam (binders_of bytes ys) (term_of bytes b)) whole G else whole G)
   unfolding is_nat_of term_of read binders_of
   tele_motive y ys b G v e =
       ap (λ bs. let whole = applied_to_variable (under lam (binder_of bytes y ∷ bs) (term_of bytes b)) in
@@ -276,7 +276,7 @@ module _ (bytes : List ℕ) where
   module _ (s : Span) (xs : Teles) (p : Box Exp Global) (y : Tele) (ys : List Tele) {e x : Exp} {ts : List Tele} (i : e ≡ Lambda_ s xs p) (j : ts ≡ tele_items xs) (h : ts ≡ y ∷ ys) (k : x ≡ p.value) where
     first_motive : (G : Scope Word) (v : Bool) → is_nat_of bytes y.ty G ≡ v
         → motive_of bytes e G ≡ (let whole = applied_to_variable (under lam (binders_of bytes (y ∷ ys)) (term_of bytes p.value)) in
-          if v then opened (words_of bytes y.names) (under lam (binders_of bytes ys) (term_of bytes p.value)) whole G else whole G)
+        if v then opened (words_of bytes y.names) (under lam (binders_of bytes ys) (term_of bytes p.value)) whole G else whole G)
     first_motive G v is =
         ap (λ m. motive_of bytes m G) i ∙ ap (λ m. m G) (read_lambda s xs p)
         ∙ ap (λ us. motive_reading (teles bytes (tree_list tele_of us)) (reading bytes (tree_of p.value)) G) (sym j ∙ h) ∙ tele_motive y ys p.value G v is

@@ -156,7 +156,8 @@ module _ (bytes : List ℕ) where
       → first ≡ s.so_far.next → Opens s t (block_of bytes before) (code_block cs) → Seen bytes s t (written_in bytes before)
       → Defines t u (number_of c) (means_of bytes d) (code_def c)
       → v ≡ record (bound_to u (word bytes (out-Def d).name) (binding.Definition (number_of c))) {
-            so_far = checked u.so_far (is_newer first (find u.names (word bytes (out-Def d).name))) (out-Def d).name.start }
+        so_far = checked u.so_far (is_newer first (find u.names (word bytes (out-Def d).name))) (out-Def d).name.start;
+      }
       → Opens s v (block_of bytes after) (code_block all_cs) × Seen bytes s v (written_in bytes after)
   unfolding block_of code_block code_def
   block_more {s = s} {t = t} {u = u} {v = v} before after d cs all_cs c {first = first} e g f opens seen def new =
@@ -166,7 +167,7 @@ module _ (bytes : List ℕ) where
       let n = number_of c in
       let last = state_after bytes u n w b in
       let here : v ≡ last =
-          new ∙ ap (λ k. record (bound_to u (word bytes w.name) (binding.Definition n)) { so_far = checked u.so_far (is_newer k (find u.names (word bytes w.name))) w.name.start }) f in
+      new ∙ ap (λ k. record (bound_to u (word bytes w.name) (binding.Definition n)) { so_far = checked u.so_far (is_newer k (find u.names (word bytes w.name))) w.name.start }) f in
       let later : s.so_far.next ≤ n = let a = opens.extends.grows in let k = def.later in omega arith in
       let opened : Opens s last (block bytes (ds ++ w ∷ [])) (definitions (cs ++ c ∷ [])) = opens_more bytes s t u ds w cs c n b opens def (again_found bytes s t u ds w seen def.keeps.names) in
       let known : Seen bytes s last (ds ++ w ∷ []) = seen_more bytes s t u ds w n b seen later def.keeps.names in
