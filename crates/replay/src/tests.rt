@@ -294,16 +294,14 @@ fn long_files_are_judged(rt: HostRuntime) -> Result<(), Fail> {
 
 #[test]
 fn roots_are_compared_with_claims(rt: HostRuntime) -> Result<(), Fail> {
-    let bytes = b"rules 1\nc nil\nn ctx.nil\nr 2\n".as_slice();
+    let bytes = b"rules 1\nc nil\nn ctx.nil\nn nat.u 1 2\nr 2\nr 3\n".as_slice();
     let Judged { verdict, mut rows } = judge(rt.alloc(), bytes)?;
-    assert_eq!(rt; verdict, Verdict::Yes { rows: 4, roots: 1 });
-    assert!(rt; rows.root_count() == 1);
-    // the context of no entries, and of a name
+    assert_eq!(rt; verdict, Verdict::Yes { rows: 6, roots: 2 });
+    assert!(rt; rows.root_count() == 2);
     let nil = rows.add(Row::Context(CtxRow::Nil))?;
-    let name = rows.add(Row::Context(CtxRow::Name(CtxId(nil))))?;
-    let root = rows.root_claim(0);
-    assert!(rt; rows.same_claim(root, Claim::Ctx(nil))?);
-    assert!(rt; !rows.same_claim(root, Claim::Ctx(name))?);
+    let (context, number) = (rows.root_claim(0), rows.root_claim(1));
+    assert!(rt; rows.same_claim(context, Claim::Ctx(nil))?);
+    assert!(rt; !rows.same_claim(context, number)?);
     assert!(rt; !rows.fits(&Row::Context(CtxRow::Name(CtxId(7)))));
     Ok(())
 }
