@@ -102,7 +102,7 @@ class Table:
         lines += [f"use theory::RuleName::{{{variants}}};", ""]
         lines += [f"/// {line}" for line in self.recipe.about]
         lines += [f"/// Its parts are {' '.join(self.recipe.parts)}.",
-                  f"pub static {name}: &[Row] = rows! {{"]
+                  f"pub static {name}: &[Row] = table! {{"]
         for text, comment in self.rows:
             lines += wrapped(comment) + broken(f"    {text},")
         outs = ", ".join(str(self.nodes[node]) for _, node in self.recipe.outs)

@@ -14,7 +14,7 @@ use theory::SigmaRule::{Fst, Snd};
 
 /// Contraction: where c contracts A, an element of A that is b where p is.
 /// Its parts are G A c p b.
-pub static CONTR: &[Row] = rows! {
+pub static CONTR: &[Row] = table! {
     // 0: ctx G
     Premise(0),
     // 1: G >> A

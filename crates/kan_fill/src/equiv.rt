@@ -14,7 +14,7 @@ use theory::SigmaRule::{Fst, SigTy, Snd};
 
 /// Extension: an element of the fiber of an equivalence w at a, which is z where p is.
 /// Its parts are G T A w p z a.
-pub static EQUIV: &[Row] = rows! {
+pub static EQUIV: &[Row] = table! {
     // 0: ctx G
     Premise(0),
     // 1: G >> T

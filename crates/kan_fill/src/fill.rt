@@ -15,7 +15,7 @@ use theory::SystemRule::{EmptyTm, SysLeft, SysRight, SysTm};
 /// Filling: `comp` along the line `j. A{min r j}`, which is a at r = 0, the composition at r = 1,
 /// and the side b{r} where p is.
 /// Its parts are G A p b a r.
-pub static FILL: &[Row] = rows! {
+pub static FILL: &[Row] = table! {
     // 0: ctx G
     Premise(0),
     // 1: G.I >> A

@@ -15,7 +15,7 @@ ghost use Rattle.kan_fill.specs.Statements.{equiv_statement};
 ghost use Rattle.kan_fill.specs.Statements.{filling, contraction, preservation, extension};
 
 /// The rows of a table, each on a line of its own however long.
-macro_rules! rows {
+macro_rules! table {
     ($($row:expr,)*) => { &[$($row),*] };
 }
 

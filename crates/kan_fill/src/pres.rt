@@ -16,7 +16,7 @@ use theory::RuleName::{Composition, Contexts, Equality, Instances, Paths, Pi};
 /// Preservation: a path from the composition of images to the image of the composition, which is
 /// constant where p is.
 /// Its parts are G T A f p t t0.
-pub static PRES: &[Row] = rows! {
+pub static PRES: &[Row] = table! {
     // 0: ctx G
     Premise(0),
     // 1: G.I >> T

@@ -2,7 +2,8 @@
 use Rattle.std.specs.Prelude.{List, [], ◌∷◌, map, Bool, not, codes, ℕ}
 use Rattle.trees.specs.declared.op.Op.TheVariants as O
 use Rattle.trees.specs.Language.{IsFormula, IsFace, Holds, Alike}
-use Rattle.patterns.specs.Patterns.{Pattern, Part, Index, Build, Under, ShiftBy, Pushed, patterns_of}
+use Rattle.patterns.specs.Patterns.{Pattern, Part, Index, Build, Under, ShiftBy, Pushed}
+use Rattle.patterns.specs.Patterns.{patterns_of}
 use Rattle.patterns.specs.Patterns.{ContextPattern, ContextPart, AddVar, AddName, AddFace}
 use Rattle.patterns.specs.Patterns.{ConditionPattern, SubstPattern, SubstPart}
 use Rattle.patterns.specs.Values.{tested_of}

@@ -41,7 +41,8 @@ pub record Infers (b : Contents) (made : List ℕ) (name : RuleName) (parts node
   pub concludes : Concludes known name parts nodes J
 
 -- over these parts and premises, and what these numbers stand for, the row makes m
-pub record MakesOne (b : Contents) (parts premises made : List ℕ) (r : Row) (m : Made) : Type 0 where
+pub record MakesOne (b : Contents) (parts premises made : List ℕ) (r : Row) (m : Made) :
+    Type 0 where
   pub things : List Thing
   pub judgements : List Judgement
   pub known : List Made

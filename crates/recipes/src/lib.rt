@@ -13,8 +13,8 @@
 //! ```
 //!
 //! The test runs the rows at normal forms with unknown parts, and compares what each rule wants
-//! with what the named rows conclude. Whether side conditions follow from those of the statement is the
-//! answer of a test of its own, which is handed in with its proof.
+//! with what the named rows conclude. Whether side conditions follow from those of the statement is
+//! the answer of a test of its own, which is handed in with its proof.
 #![tactic(auto)]
 
 ghost use Rattle.std.specs.Prelude.{◌≡◌, ℕ, true, List, Some, map};
