@@ -1,4 +1,4 @@
-use Rattle.std.proofs.Common.{length, arith}
+use Rattle.std.proofs.Common.{length, arith, refl}
 use Rattle.grammar.proofs.Ends.{module_fault, module_read, module_is_no_exp}
 use Rattle.grammar.proofs.Sizes.{short}
 use Rattle.grammar.proofs.reading.read.Goals as goal
@@ -15,4 +15,4 @@ returns-in-Exp-clause-err c = absurd (module_is_no_exp c.as_slice.result.now 0 c
 
 pub returns-in-Err-clause-err : goal.returns-in-Err-clause-err
 returns-in-Err-clause-err c =
-    module_fault c.as_slice.result.now c.args.tokens.now c.len.result (length c.args.bytes.now) c.in-Err.fault c.in-Err.ensures c.as_slice.ensures c.len.ensures
+    module_fault c.as_slice.result.now c.args.tokens.now (length c.args.bytes.now) (length c.args.bytes.now) c.in-Err.fault c.in-Err.ensures c.as_slice.ensures refl

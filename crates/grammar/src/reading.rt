@@ -212,15 +212,14 @@ pub fn read(alloc: Global, bytes: &[u8], tokens: &Tokens) -> Result<Module, Read
     ensures err { IfErr result (IsFault IsModule (length bytes.now) (pieces tokens.now)) }
 {
     let size = bytes.len() as u32;
-    match whole_text(
-        alloc,
-        Top::Heading(Heading::Nothing),
-        size,
-        tokens.as_slice(),
-    )? {
-        Text::Module(module) => Ok(module),
-        // No module is read as an expression.
-        Text::Exp(_exp) => Err(ReadFault::Unexpected(size)),
+    let top = Top::Heading(Heading::Nothing);
+    match whole_text(alloc, top, size, tokens.as_slice()) {
+        Ok(text) => match text {
+            Text::Module(module) => Ok(module),
+            // No module is read as an expression.
+            Text::Exp(_exp) => Err(ReadFault::Unexpected(size)),
+        },
+        Err(fault) => Err(fault),
     }
 }
 

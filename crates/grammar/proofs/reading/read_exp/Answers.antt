@@ -1,4 +1,4 @@
-use Rattle.std.proofs.Common.{length, arith}
+use Rattle.std.proofs.Common.{length, arith, refl}
 use Rattle.grammar.proofs.Ends.{exp_fault, exp_read, exp_is_no_module}
 use Rattle.grammar.proofs.Sizes.{short}
 use Rattle.grammar.proofs.reading.read_exp.Goals as goal
@@ -15,4 +15,4 @@ returns-in-Module-clause-err c = absurd (exp_is_no_module c.as_slice.result.now 
 
 pub returns-in-Err-clause-err : goal.returns-in-Err-clause-err
 returns-in-Err-clause-err c =
-    exp_fault c.as_slice.result.now c.args.tokens.now c.len.result (length c.args.bytes.now) c.in-Err.fault c.in-Err.ensures c.as_slice.ensures c.len.ensures
+    exp_fault c.as_slice.result.now c.args.tokens.now (length c.args.bytes.now) (length c.args.bytes.now) c.in-Err.fault c.in-Err.ensures c.as_slice.ensures refl
