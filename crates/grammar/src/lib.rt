@@ -7,6 +7,3 @@
 mod reading;
 
 pub use reading::{ReadFault, read, read_exp};
-
-#[cfg(test)]
-mod tests;
