@@ -1,24 +1,26 @@
 -- What a closure opens to: what it means, what it names and what it weighs.
-use Rattle.std.proofs.Common.{◌≡◌, ℕ, suc, ◌+◌, ◌≤◌, List, [], ◌∷◌, length, length-append, refl, sym, ◌∙◌, ap, subst, arith, Option, Some, None}
+use Rattle.std.proofs.Common.{◌≡◌, ℕ, suc, ◌+◌, ◌≤◌, List, [], ◌∷◌, length, length-append, refl, sym, ◌∙◌, ap, ap₂, subst, arith, Option, Some, None, ◌⊎◌, inl, inr}
 use Rattle.std.specs.Prelude.{option_and_then}
 use Rattle.std.specs.List.{All}
 use Rattle.std.proofs.lemmas.List.Elements.{All-nil, All-cons, All-weaker}
 use Rattle.trees.specs.declared.op.Op.{Op}
 use Rattle.trees.specs.Operators.{binds_of}
-use Rattle.trees.specs.Trees.{Tree, Subst, Var, Make, trees_of, apply}
+use Rattle.trees.specs.Trees.{Tree, Trees, NoTrees, More, Subst, Var, Make, trees_of, apply, id, count_of}
 use Rattle.trees.specs.Things.{Thing, ATree, ASubst, AContext, Meanings, both, consed, over_kids, meanings, only_trees, made, instance_of}
 use Rattle.trees.proofs.Meanings.{meanings-cons}
 use Rattle.substitution.specs.Delayed.{Delayed as UnderBinders, at_depth, closed, deeper, closed_kids}
-use Rattle.substitution.proofs.Closures.{closed-make}
+use Rattle.substitution.proofs.Closures.{closed-make, closed-id}
 use Rattle.closures.specs.declared.environments.Delayed.TheVariants.{Under}
 use Rattle.closures.specs.declared.environments.Environment.{Environment}
 use Rattle.closures.specs.declared.environments.Environment.TheVariants as env
 use Rattle.closures.specs.declared.closure.Closure.{Closure}
 use Rattle.closures.specs.declared.variables.Found.{Found}
 use Rattle.closures.specs.declared.variables.Found.TheVariants as found
-use Rattle.rows.specs.Views.{IsTree, IsSubst}
+use Rattle.rows.specs.declared.views.SubSize.{SubSize}
+use Rattle.rows.specs.Views.{IsTree, IsSubst, IsSizeOf, IsPushed}
 use Rattle.closures.specs.Environments.{Waiting, waiting, deepened, listed, IsWithin}
-use Rattle.closures.specs.Closures.{delays, delayed_subst, subst_of, under, kid_things, all_there, IsDelayed, Stands, StandsUnder, IsClosure, FoundStands, closure_meaning, variable_meaning, found_meaning}
+use Rattle.closures.specs.Closures.{delays, delayed_subst, subst_of, under, kid_things, all_there, WaitsBefore, IsDelayed, Stands, StandsUnder, IsClosure, FoundStands, closure_meaning, variable_meaning, found_meaning}
+use Rattle.closures.specs.Weights.{row_weight, weight_of}
 use Rattle.rows.specs.Tables.{Grows}
 use Rattle.rows.specs.declared.views.TermId.{TermId}
 use Rattle.rows.specs.declared.views.SubId.{SubId}
@@ -148,14 +150,56 @@ tree-follows f known new c k x tree is becomes grows meaning stands = record {
   stands = λ n h. subst (FoundStands f new n) becomes (stands n h.environment);
 }
 
--- a closure whose row is an instance: its tree, where one more substitution waits before the others
-pub instance-follows : (f : Meanings) (known new : List (List Waiting)) (c : Closure) (t : TermId) (s : SubId) (longer : Environment) → IsTree (f c.row.0) → f c.row.0 ≡ both instance_of (f t.0) (f s.0) → Grows known new → listed new longer ≡ waiting 0 (Under s) ∷ listed known c.environment → IsWithin new longer → Follows f known c new (record { row = t; environment = longer })
-instance-follows f known new c t s longer is meaning grows list within =
+-- nothing need wait for the identity
+under-id : (o : Option Thing) (env : List UnderBinders) → under o (at_depth 0 id ∷ env) ≡ under o env
+under-id None env = refl
+under-id (Some (ATree t)) env = ap (λ u. Some (ATree u)) (closed-id t 0 env)
+under-id (Some (ASubst d)) env = refl
+under-id (Some (AContext G)) env = refl
+
+-- a substitution of size none is the identity
+pub size-none : (o : Option Thing) (size : SubSize) → IsSizeOf o size → size.pushed ≡ Some 0 → size.shift ≡ 0 → o ≡ Some (ASubst id)
+size-none None size is p s = absurd is
+size-none (Some (ATree t)) size is p s = absurd is
+size-none (Some (AContext G)) size is p s = absurd is
+size-none (Some (ASubst d)) size is p s =
+    let Counts : Option ℕ → Type 0 = IsPushed (count_of d.pushed) in
+    let none : d.pushed ≡ NoTrees = uncounted d.pushed (subst Counts p is.0) in
+    let shift : d.shift ≡ 0 = is.1 ∙ s in
+    ap₂ (λ ts n. Some (ASubst (record { pushed = ts; shift = n }))) none shift
+  where
+    uncounted : (ts : Trees) → count_of ts ≡ 0 → ts ≡ NoTrees
+    uncounted NoTrees e = refl
+    uncounted (More t rest) e = absurd (omega arith)
+
+-- what waits before the others means as much as the substitution of the row there
+before-means : (f : Meanings) (o : Option Thing) (s : SubId) (ws longer : List Waiting) → WaitsBefore (f s.0) s ws longer → under o (delays f longer) ≡ under o (delays f (waiting 0 (Under s) ∷ ws))
+before-means f o s ws longer (inl e) = ap (λ l. under o (delays f l)) e
+before-means f o s ws longer (inr (identity, e)) =
+    ap (λ l. under o (delays f l)) e
+    ∙ sym (under-id o (delays f ws))
+    ∙ ap (λ d. under o (at_depth 0 (subst_of d) ∷ delays f ws)) (sym identity)
+
+pub before-stands : (f : Meanings) (known new : List (List Waiting)) (n : ℕ) (s : SubId) (environment longer : Environment) → Stands f known n environment → IsSubst (f s.0) → WaitsBefore (f s.0) s (listed known environment) (listed new longer) → IsWithin new longer → Stands f new n longer
+before-stands f known new n s environment longer stands substitution (inl e) within = Stands-push f known new n s environment longer stands substitution e within
+before-stands f known new n s environment longer stands substitution (inr (identity, e)) within =
+    let R : List Waiting → Type 0 = All (λ w. IsDelayed f w.delayed) in
+    let D : List Waiting → Type 0 = All (λ w. w.depth ≤ n) in
+    record { within = within; substs = subst R (sym e) stands.substs; shallow = subst D (sym e) stands.shallow }
+
+-- and weighs no more
+pub before-weight : (f : Meanings) (s : SubId) (ws longer : List Waiting) → WaitsBefore (f s.0) s ws longer → weight_of longer ≤ row_weight s.0 + weight_of ws
+before-weight f s ws longer (inl e) = let w : weight_of longer ≡ row_weight s.0 + weight_of ws = ap weight_of e in omega arith
+before-weight f s ws longer (inr (identity, e)) = let w : weight_of longer ≡ weight_of ws = ap weight_of e in omega arith
+
+-- a closure whose row is an instance: its tree, where the substitution waits before the others
+pub instance-follows : (f : Meanings) (known new : List (List Waiting)) (c : Closure) (t : TermId) (s : SubId) (longer : Environment) → IsTree (f c.row.0) → f c.row.0 ≡ both instance_of (f t.0) (f s.0) → Grows known new → WaitsBefore (f s.0) s (listed known c.environment) (listed new longer) → IsWithin new longer → Follows f known c new (record { row = t; environment = longer })
+instance-follows f known new c t s longer is meaning grows waits within =
     let o = instance-opens f (f c.row.0) t s (listed known c.environment) is meaning in
     record {
       grows = grows;
-      meaning = ap (λ ws. under (f t.0) (delays f ws)) list ∙ o.meaning;
-      stands = λ n h. record { row = o.tree; environment = Stands-push f known new n s c.environment longer h.environment o.subst list within };
+      meaning = before-means f (f t.0) s (listed known c.environment) (listed new longer) waits ∙ o.meaning;
+      stands = λ n h. record { row = o.tree; environment = before-stands f known new n s c.environment longer h.environment o.subst waits within };
     }
 
 -- what stands for a depth stands for each that is greater

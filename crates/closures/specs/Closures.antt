@@ -7,6 +7,7 @@ use Rattle.trees.specs.Operators.{binds_of}
 use Rattle.trees.specs.Trees.{Subst, Var, shift_by, id, count_of}
 use Rattle.trees.specs.Things.{Thing, ATree, ASubst, Meanings, both, consed, made}
 use Rattle.substitution.specs.Delayed.{Delayed as UnderBinders, at_depth, closed}
+use Rattle.rows.specs.declared.views.SubId.{SubId}
 use Rattle.rows.specs.Views.{IsTree, IsSubst}
 use Rattle.closures.specs.Environments.{Waiting, waiting, deepened, listed, IsWithin, deepest}
 use Rattle.closures.specs.declared.environments.Delayed.{Delayed}
@@ -109,6 +110,11 @@ IsPassed (Some (ASubst d)) lift index (Some past) =
 IsPassed (Some (ASubst d)) lift index None =
     (index < lift + count_of d.pushed) ⊎ (2 ^ 64 ≤ count_of d.pushed)
 IsPassed _ lift index past = ⊥
+
+-- the substitution of a row waits before others; nothing need wait where it is the identity
+abbrev pub WaitsBefore : Option Thing → SubId → List Waiting → List Waiting → Type 0
+WaitsBefore o row ws longer =
+    (longer ≡ waiting 0 (Under row) ∷ ws) ⊎ ((o ≡ Some (ASubst id)) × (longer ≡ ws))
 
 -- the index grew by one shift at most
 abbrev pub IsNear : ℕ → Entered → Type 0

@@ -6,12 +6,14 @@ ghost use Rattle.trees.specs.Operators.{kids_of, binds_of};
 ghost use Rattle.rows.specs.Tables.{Grows};
 ghost use Rattle.closures.specs.Shown.{lists};
 ghost use Rattle.closures.specs.Environments.{deepest, listed, deepened, IsWithin};
+ghost use Rattle.rows.specs.Views.{IsSubst};
 ghost use Rattle.closures.specs.Closures.{IsClosure, HeadStands, closure_meaning, head_meaning};
+ghost use Rattle.closures.specs.Closures.{WaitsBefore};
 
 use crate::closure::Closure;
 use crate::environments::{Delayed, Environment, Environments};
 use crate::variables::{Found, look};
-use rows::{Reader, TermId, TermRow};
+use rows::{Reader, SubId, SubSize, TermId, TermRow};
 use std::alloc::AllocError;
 use trees::{Op, binds};
 
@@ -22,6 +24,30 @@ pub enum Head<'a> {
     Var(u128),
     /// An operator over the rows of its kids, under the environment.
     Make(Op, &'a [u64], Environment),
+}
+
+/// The environment where the substitution of a row waits before others. For the identity it is
+/// theirs, so that a tree under it opens to what the tree opens to.
+fn before<R: Reader>(
+    rows: &R,
+    environments: &mut Environments,
+    subst: SubId,
+    rest: Environment,
+) -> Result<Environment, AllocError>
+    requires subst { IsSubst (R.means rows.now subst.0) }
+    requires within { IsWithin (lists environments.old) rest }
+    ensures grows { Grows (lists environments.old) (lists environments.new) }
+    ensures list { IfOk result (λ env. WaitsBefore (R.means rows.now subst.0) subst
+        (listed (lists environments.old) rest) (listed (lists environments.new) env)) }
+    ensures within { IfOk result (λ env. IsWithin (lists environments.new) env) }
+{
+    match rows.size(subst) {
+        SubSize {
+            pushed: Some(0),
+            shift: 0,
+        } => Ok(rest),
+        _ => Ok(environments.push(Delayed::Under(subst), rest)?),
+    }
 }
 
 /// Opens a closure: instances are met and variables looked up, until a variable stays or an
@@ -51,7 +77,7 @@ pub fn head_of<'a, R: Reader>(
             TermRow::Instance(tree, subst) => {
                 closure = Closure {
                     row: tree,
-                    environment: environments.push(Delayed::Under(subst), closure.environment)?,
+                    environment: before(rows, environments, subst, closure.environment)?,
                 };
             }
         }

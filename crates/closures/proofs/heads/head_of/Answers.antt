@@ -1,11 +1,11 @@
-use Rattle.std.proofs.Common.{◌≡◌, ◌<◌, ◌+◌, sym, ◌∙◌, ap, subst, arith}
+use Rattle.std.proofs.Common.{◌≡◌, ◌<◌, ◌≤◌, ◌+◌, sym, ◌∙◌, ap, subst, arith}
 use Rattle.closures.specs.Shown.{lists}
 use Rattle.closures.specs.Environments.{deepest, listed}
 use Rattle.closures.specs.Closures.{found_meaning}
 use Rattle.closures.specs.Weights.{row_weight, weight_of, closure_weight, FoundLess}
 use Rattle.rows.proofs.TableLaws.{grows-grows}
 use Rattle.closures.proofs.WeightLaws.{row_weight-two}
-use Rattle.closures.proofs.HeadLaws.{follows-same, follows-follows, instance-follows, make-opens, variable-of, tree-follows}
+use Rattle.closures.proofs.HeadLaws.{follows-same, follows-follows, instance-follows, before-weight, make-opens, variable-of, tree-follows}
 use Rattle.closures.proofs.heads.head_of.Goals as goal
 
 pub loop-index-init : goal.loop-index-init
@@ -64,12 +64,12 @@ returns-in-Make-clause-meaning g c =
 pub returns-in-Make-clause-stands : goal.returns-in-Make-clause-stands
 returns-in-Make-clause-stands g c = λ n h. (c.loop-index.invariant.stands n h).environment
 
-pub push-requires : goal.push-requires
-push-requires g c = (c.loop-index.invariant.stands deepest c.requires).environment.within
+pub before-requires-clause-within : goal.before-requires-clause-within
+before-requires-clause-within g c = (c.loop-index.invariant.stands deepest c.requires).environment.within
 
-pub returns-in_err-push-in-Instance-clause-grows : goal.returns-in_err-push-in-Instance-clause-grows
-returns-in_err-push-in-Instance-clause-grows g c =
-    grows-grows (lists c.args.environments.now) (lists c.loop-index.environments) (lists c.push.new.self) c.loop-index.invariant.grows c.push.ensures.grows
+pub returns-in_err-before-in-Instance-clause-grows : goal.returns-in_err-before-in-Instance-clause-grows
+returns-in_err-before-in-Instance-clause-grows g c =
+    grows-grows (lists c.args.environments.now) (lists c.loop-index.environments) (lists c.before-in-Instance.new.environments) c.loop-index.invariant.grows c.before-in-Instance.ensures.grows
 
 pub loop-index-smaller : goal.loop-index-smaller
 loop-index-smaller g c =
@@ -77,11 +77,12 @@ loop-index-smaller g c =
     let s = c.in-Instance.subst.0 in
     let row = c.loop-index.closure.row.0 in
     let ws = listed (lists c.loop-index.environments) c.loop-index.closure.environment in
-    let longer = listed (lists c.push.new.self) c.in_ok-push-in-Instance.field-0 in
+    let longer = listed (lists c.before-in-Instance.new.environments) c.in_ok-before-in-Instance.field-0 in
     let t_earlier : t < row = c.in-Instance.ensures.earlier 0 0 (omega arith) in
     let s_earlier : s < row = c.in-Instance.ensures.earlier 1 0 (omega arith) in
     let both : row_weight t + row_weight s < row_weight row = row_weight-two t s row t_earlier s_earlier in
-    let more : weight_of longer ≡ row_weight s + weight_of ws = ap weight_of c.in_ok-push-in-Instance.ensures.list in
+    let more : weight_of longer ≤ row_weight s + weight_of ws =
+    before-weight (g.R.Rows.means c.args.rows.now) c.in-Instance.subst ws longer c.in_ok-before-in-Instance.ensures.list in
     let smaller : row_weight t + weight_of longer < row_weight row + weight_of ws = omega arith in
     smaller
 
@@ -89,9 +90,9 @@ pub loop-index-preserved : goal.loop-index-preserved
 loop-index-preserved g c =
     let f = g.R.Rows.means c.args.rows.now in
     let now = lists c.loop-index.environments in
-    let new = lists c.push.new.self in
+    let new = lists c.before-in-Instance.new.environments in
     follows-follows f (lists c.args.environments.now) now new c.args.closure c.loop-index.closure _
     c.loop-index.invariant
-    (instance-follows f now new c.loop-index.closure c.in-Instance.tree c.in-Instance.subst c.in_ok-push-in-Instance.field-0
-    (c.loop-index.invariant.stands deepest c.requires).row c.in-Instance.ensures.meaning c.push.ensures.grows
-    c.in_ok-push-in-Instance.ensures.list c.in_ok-push-in-Instance.ensures.within)
+    (instance-follows f now new c.loop-index.closure c.in-Instance.tree c.in-Instance.subst c.in_ok-before-in-Instance.field-0
+    (c.loop-index.invariant.stands deepest c.requires).row c.in-Instance.ensures.meaning c.before-in-Instance.ensures.grows
+    c.in_ok-before-in-Instance.ensures.list c.in_ok-before-in-Instance.ensures.within)
