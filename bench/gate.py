@@ -1,79 +1,99 @@
 #!/usr/bin/env python3
-"""Measures what the gate costs from nothing, crate by crate: processor minutes for code, for tests and for refused edits.
+"""Measures what the gate costs, crate by crate: processor minutes for code, for tests and for refused edits.
 
-usage: python3 bench/gate.py [NAME ..]
+usage: python3 bench/gate.py [--pid PID | WORD ..]
 
-Each crate named (all, where none is) is passed by `rt ci` in a temporary copy of the repository whose root file has one more
-comment, so that the crate itself is proved anew while those below it are taken as they were passed: first without tests and edits,
-then with tests, then with both. Run the gate itself first, and nothing else beside this. The script needs Python 3 and `rt`.
+Runs `rt ci` with these words (`--anew` for all from nothing, names of crates for these alone), or watches one that runs already,
+and reads from /proc twice a second what each prover under it has taken. A prover with `--test` proves tests; one in the copy that
+the run was started in proves code; one in a copy of its own tries an edit. Other work on the machine makes the minutes a little
+more than they are alone. The script needs Linux, Python 3 and `rt`.
 """
 
+import collections
 import os
-import re
-import resource
-import shutil
 import subprocess
 import sys
-import tempfile
+import time
 
-ROOT = os.path.dirname(os.path.dirname(os.path.abspath(__file__)))
-
-
-def crates():
-    """The crates that crates.txt lists, in its order."""
-    with open(os.path.join(ROOT, "crates.txt")) as file:
-        return [line.split(":")[0].split()[0] for line in file if ":" in line.split("#")[0]]
+TICK = os.sysconf("SC_CLK_TCK")
 
 
-def root_file(folder):
-    """The root file of a crate in that folder."""
-    found = [os.path.join(folder, "src", name) for name in ("lib.rt", "main.rt")]
-    return next(path for path in found if os.path.exists(path))
+def read(pid, name):
+    try:
+        with open(f"/proc/{pid}/{name}", "rb") as file:
+            return file.read()
+    except OSError:
+        return b""
 
 
-def strip_tests(folder):
-    """Takes the tests out of a crate in that folder."""
-    path = root_file(folder)
-    with open(path) as file:
-        text = file.read()
-    with open(path, "w") as file:
-        file.write(re.sub(r"#\[cfg\(test\)\]\n(pub )?mod tests;\n", "", text))
-    for name in ("tests.rt", "tests"):
-        it = os.path.join(folder, "src", name)
-        shutil.rmtree(it) if os.path.isdir(it) else os.path.exists(it) and os.remove(it)
-    shutil.rmtree(os.path.join(folder, "proofs", "tests"), ignore_errors=True)
+def processes():
+    """The parent and the processor seconds of each process, with those of its children that ended."""
+    found = {}
+    for pid in filter(str.isdigit, os.listdir("/proc")):
+        stat = read(pid, "stat").rpartition(b")")[2].split()
+        if stat:
+            found[int(pid)] = int(stat[1]), sum(map(int, stat[11:13])) / TICK
+    return found
 
 
-def minutes(name, tests, edits):
-    """Processor minutes for that crate, with its tests and its edits or without; None where it does not pass."""
-    with tempfile.TemporaryDirectory() as copy:
-        subprocess.run(["git", "clone", "-q", ROOT, copy], check=True)
-        folder = os.path.join(copy, "crates", name)
-        if not tests:
-            strip_tests(folder)
-        if not edits:
-            shutil.rmtree(os.path.join(folder, "must-fail"), ignore_errors=True)
-        with open(root_file(folder), "a") as file:
-            file.write(f"\n// timed with tests: {tests}, with edits: {edits}, by {os.getpid()}\n")
-        before = resource.getrusage(resource.RUSAGE_CHILDREN)
-        done = subprocess.run(["rt", "ci", name], cwd=copy, capture_output=True, text=True)
-        after = resource.getrusage(resource.RUSAGE_CHILDREN)
-        if done.returncode != 0:
-            return None
-        return (after.ru_utime + after.ru_stime - before.ru_utime - before.ru_stime) / 60
+def below(root, found):
+    """The processes under this one."""
+    children = collections.defaultdict(list)
+    for pid, (parent, _) in found.items():
+        children[parent].append(pid)
+    waiting, under = [root], []
+    while waiting:
+        pid = waiting.pop()
+        under.append(pid)
+        waiting += children[pid]
+    return under
+
+
+def work_of(pid):
+    """The crate that a prover works at, and whether it is its code, tests or an edit; None for another process."""
+    words = read(pid, "cmdline").decode(errors="replace").split("\0")
+    if "--crate-name" not in words:
+        return None
+    name = words[words.index("--crate-name") + 1]
+    if "--test" in words:
+        return name, "tests"
+    try:
+        folder = os.readlink(f"/proc/{pid}/cwd")
+    except OSError:
+        return None
+    return name, "code" if folder.endswith(f"/repo/crates/{name}") else "edits"
+
+
+def watch(root, running):
+    """The processor seconds of each crate and kind of work under this process, until it has ended."""
+    seconds = {}
+    while running():
+        found = processes()
+        for pid in below(root, found):
+            work = work_of(pid)
+            if work and pid in found:
+                seconds[work, pid] = found[pid][1]
+        time.sleep(0.5)
+    whole = collections.Counter()
+    for (work, _), taken in seconds.items():
+        whole[work] += taken
+    return whole
 
 
 def main():
-    print(f"{'crate':<16}{'code':>8}{'tests':>8}{'edits':>8}{'all':>8}")
-    total = 0.0
-    for name in sys.argv[1:] or crates():
-        code, tested, whole = (minutes(name, *how) for how in ((False, False), (True, False), (True, True)))
-        if None in (code, tested, whole):
-            print(f"{name:<16}{'does not pass':>32}")
-            continue
-        total += whole
-        print(f"{name:<16}{code:>8.1f}{tested - code:>8.1f}{whole - tested:>8.1f}{whole:>8.1f}", flush=True)
-    print(f"{'all':<16}{total:>32.1f}")
+    words = sys.argv[1:]
+    if words[:1] == ["--pid"]:
+        root = int(words[1])
+        whole = watch(root, lambda: os.path.exists(f"/proc/{root}"))
+    else:
+        run = subprocess.Popen(["rt", "ci", *words])
+        whole = watch(run.pid, lambda: run.poll() is None)
+    names = sorted({name for name, _ in whole})
+    kinds = ["code", "tests", "edits"]
+    print(f"{'crate':<20}" + "".join(f"{kind:>8}" for kind in kinds) + f"{'all':>8}")
+    for name in names + ["all"]:
+        minutes = [sum(taken for (crate, of), taken in whole.items() if of == kind and name in (crate, "all")) / 60 for kind in kinds]
+        print(f"{name:<20}" + "".join(f"{taken:>8.1f}" for taken in minutes + [sum(minutes)]))
 
 
 if __name__ == "__main__":
