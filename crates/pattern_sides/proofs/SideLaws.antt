@@ -41,7 +41,7 @@ module _ (v : Parts trees) (facts : List NormalCondition) (holds : All SideHolds
       record {
         left = formula-over H r f.0;
         right = formula-over H s g.0;
-        agree = λ x satisfied val over. agree-same v x val over (faces_of H) r s (faces-true v H x satisfied) g.1;
+        agree = λ x satisfied val over. agree-same v x val over (names_of H) (faces_of facts H) r s (faces-true v facts holds H x satisfied) g.1;
       }
 
   alike-filled : (H : NormalContext) (d e : NormalSubst) → are_alike facts H d e ≡ true → AlikeIn (filled_context v H) (filled_subst v d) (filled_subst v e)
@@ -63,7 +63,7 @@ module _ (v : Parts trees) (facts : List NormalCondition) (holds : All SideHolds
   by_form (IsFace G p) h = face-over G p h
   by_form (Holds G p) h =
       let f = both (is_face_over facts G p) _ h in
-      λ x satisfied. (face-over G p f.0, follows-true v x (faces_of G) p (faces-true v G x satisfied) f.1)
+      λ x satisfied. (face-over G p f.0, follows-true v x (names_of G) (faces_of facts G) p (faces-true v facts holds G x satisfied) f.1)
   by_form (Alike H d e) h = alike-filled H d e h
 
 one_of : (v : Parts trees) (c : NormalCondition) (facts : List NormalCondition) → All SideHolds (map (filled_condition v) facts) → list_any (same_normal_condition c) facts ≡ true → SideHolds (filled_condition v c)

@@ -12,7 +12,8 @@ use Rattle.patterns.specs.Normals.{Normal, NMake, NoNormals, MoreNormals, same_n
 use Rattle.patterns.specs.Fillings.{filled}
 use Rattle.patterns.proofs.SameLaws.{both, same_normal-true}
 use Rattle.conditions.specs.Sides.{value, is_true}
-use Rattle.pattern_sides.specs.Truths.{Told, some_meet, some_join, some_and, some_or, fails_of, holds_of, value_told, truth_told, formula_atoms, value_atoms, face_atoms, all_atoms, distinct, Entry, told, at_all, told_false, told_true, truths, point_values, is_implied, follows_from, TwoValues, two, both_value, values_over, at_point_of, over_it_of, same_bool, told_same, are_equal, agree_under}
+use Rattle.pattern_sides.specs.Truths.{Told, some_meet, some_join, some_and, some_or, fails_of, holds_of, value_told, truth_told, formula_atoms, value_atoms, face_atoms, all_atoms, distinct, Entry, told, at_all, told_false, told_true, truths, point_values, is_implied, follows_from, TwoValues, two, both_value, values_over, at_point_of, over_it_of, same_bool, told_same, Instance, instances_of, is_broken, are_refuted, follows_over, are_equal, agree_over, agree_under}
+use Rattle.pattern_sides.proofs.InstanceLaws.{AllGiven, all-given}
 use Rattle.pattern_sides.proofs.ValueLaws.{AllTrue, point-value, IsAbove, or_cases, worth, over-value}
 
 record MapSome {A B : Type 0} (g : A → B) (o : Option A) (y : B) : Type 0 where
@@ -85,12 +86,29 @@ module _ (v : Parts trees) (x : Point) (f : Told Value) (g : Told Bool) (values 
   true-told p (Some false) e h = absurd (cc h)
   true-told p None e h = absurd (cc h)
 
-  implied-true : (faces : List Normal) (p : Normal) → AllTrue v x faces → is_implied faces p f g ≡ true → is_true x (filled v p) ≡ true
-  implied-true faces p all h =
+  -- none of these instances is told false where its `all` is told true
+  none-broken : (is : List Instance) → AllGiven v x is → list_any (is_broken f g) is ≡ true → ⊥
+  none-broken [] given h = absurd (cc h)
+  none-broken (i ∷ is) given h =
       ⊎_elim
-      (λ q. absurd (none-false faces all q))
+      (λ q.
+      let t = both (told_true (truth_told f g i.of_all)) _ q in
+      let yes = given.0 (true-told i.of_all (truth_told f g i.of_all) refl t.0) in
+      let no : true ≡ false = sym yes ∙ told-false i.is (truth_told f g i.is) refl t.1 in
+      absurd (cc no))
+      (λ q. none-broken is given.1 q)
+      (or_cases (is_broken f g i) _ h)
+
+  none-refuted : (is : List Instance) (faces : List Normal) → AllGiven v x is → AllTrue v x faces → are_refuted is faces f g ≡ true → ⊥
+  none-refuted is faces given all h =
+      ⊎_elim (none-false faces all) (none-broken is given) (or_cases (list_any (λ q. told_false (truth_told f g q)) faces) _ h)
+
+  implied-true : (is : List Instance) (faces : List Normal) (p : Normal) → AllGiven v x is → AllTrue v x faces → is_implied is faces p f g ≡ true → is_true x (filled v p) ≡ true
+  implied-true is faces p given all h =
+      ⊎_elim
+      (λ q. absurd (none-refuted is faces given all q))
       (λ q. true-told p (truth_told f g p) refl q)
-      (or_cases (list_any (λ q. told_false (truth_told f g q)) faces) _ h)
+      (or_cases (are_refuted is faces f g) _ h)
 
 -- at all values
 
@@ -133,13 +151,18 @@ listed-point false true e p h = (both (p zero_value) _ h).0
 listed-point true false e p h = (both (p one_value) _ (both (p zero_value) _ h).1).0
 listed-point false false e p h = (both (p free_value) _ (both (p one_value) _ (both (p zero_value) _ h).1).1).0
 
-pub follows-true : (v : Parts trees) (x : Point) (faces : List Normal) (p : Normal) → AllTrue v x faces → follows_from faces p ≡ true → is_true x (filled v p) ≡ true
-follows-true v x faces p all h =
+follows-over : (v : Parts trees) (x : Point) (names : List Bool) (values truth faces : List Normal) (p : Normal) → AllTrue v x faces → follows_over names values truth faces p ≡ true → is_true x (filled v p) ≡ true
+follows-over v x names values truth faces p all h =
+    let is = instances_of names values truth in
     let value_of : Normal → Value = λ t. value (valuation_of x) (filled v t) in
-    let truth : Normal → Bool = λ t. is_true x (filled v t) in
-    let vs = reached point_values value_of (λ t. listed-point (value_of t).holds (value_of t).fails (point-value x (filled v t))) (distinct (all_atoms value_atoms (p ∷ faces))) [] (told-none value_of) (λ vs. at_all truths (distinct (all_atoms face_atoms (p ∷ faces))) [] (λ ts. is_implied faces p (told vs) (told ts))) h in
-    let ts = reached truths truth (λ t. listed-truth (truth t)) (distinct (all_atoms face_atoms (p ∷ faces))) [] (told-none truth) (λ ts. is_implied faces p (told vs.entries) (told ts)) vs.passes in
-    implied-true v x (told vs.entries) (told ts.entries) vs.right ts.right faces p all ts.passes
+    let truth_of : Normal → Bool = λ t. is_true x (filled v t) in
+    let vs = reached point_values value_of (λ t. listed-point (value_of t).holds (value_of t).fails (point-value x (filled v t))) values [] (told-none value_of) (λ vs. at_all truths truth [] (λ ts. is_implied is faces p (told vs) (told ts))) h in
+    let ts = reached truths truth_of (λ t. listed-truth (truth_of t)) truth [] (told-none truth_of) (λ ts. is_implied is faces p (told vs.entries) (told ts)) vs.passes in
+    implied-true v x (told vs.entries) (told ts.entries) vs.right ts.right is faces p (all-given v x _ truth) all ts.passes
+
+pub follows-true : (v : Parts trees) (x : Point) (names : List Bool) (faces : List Normal) (p : Normal) → AllTrue v x faces → follows_from names faces p ≡ true → is_true x (filled v p) ≡ true
+follows-true v x names faces p all h =
+    follows-over v x names (distinct (all_atoms value_atoms (p ∷ faces))) (distinct (all_atoms face_atoms (p ∷ faces))) faces p all h
 
 -- two values
 
@@ -181,17 +204,22 @@ same-told v val f right r s _ _ o_is p_is h = absurd (cc h)
 of-two : (actual : Normal → TwoValues) (part : TwoValues → Value) (f : Told TwoValues) → TellsTrue f actual → TellsTrue (λ t. option_map part (f t)) (λ t. part (actual t))
 of-two actual part f right = record { tells = λ t w e. let m = map_some part (f t) w e in ap part (right.tells t m.value m.is) ∙ m.gives }
 
-pub agree-same : (v : Parts trees) (x : Point) (val : Valuation) → LiesOver x val → (faces : List Normal) (r s : Normal) → AllTrue v x faces → agree_under faces r s ≡ true → value val (filled v r) ≡ value val (filled v s)
-agree-same v x val over faces r s all h =
+agree-over : (v : Parts trees) (x : Point) (val : Valuation) → LiesOver x val → (names : List Bool) (values truth faces : List Normal) (r s : Normal) → AllTrue v x faces → agree_over names values truth faces r s ≡ true → value val (filled v r) ≡ value val (filled v s)
+agree-over v x val over names values truth faces r s all h =
+    let is = instances_of names values truth in
     let value_of : Normal → TwoValues = λ t. two (value (valuation_of x) (filled v t)) (value val (filled v t)) in
-    let truth : Normal → Bool = λ t. is_true x (filled v t) in
-    let vs = reached values_over value_of (λ t. listed-two (value_of t).at_point.holds (value_of t).at_point.fails (value_of t).over_it (point-value x (filled v t)) (over-value x val over (filled v t))) (distinct (formula_atoms r ++ (formula_atoms s ++ all_atoms value_atoms faces))) [] (told-none value_of) (λ vs. at_all truths (distinct (all_atoms face_atoms faces)) [] (λ ts. are_equal faces r s (told vs) (told ts))) h in
-    let ts = reached truths truth (λ t. listed-truth (truth t)) (distinct (all_atoms face_atoms faces)) [] (told-none truth) (λ ts. are_equal faces r s (told vs.entries) (told ts)) vs.passes in
+    let truth_of : Normal → Bool = λ t. is_true x (filled v t) in
+    let vs = reached values_over value_of (λ t. listed-two (value_of t).at_point.holds (value_of t).at_point.fails (value_of t).over_it (point-value x (filled v t)) (over-value x val over (filled v t))) values [] (told-none value_of) (λ vs. at_all truths truth [] (λ ts. are_equal is faces r s (told vs) (told ts))) h in
+    let ts = reached truths truth_of (λ t. listed-truth (truth_of t)) truth [] (told-none truth_of) (λ ts. are_equal is faces r s (told vs.entries) (told ts)) vs.passes in
     let f = at_point_of (told vs.entries) in
     let g = over_it_of (told vs.entries) in
     let points = of-two value_of (λ w. w.at_point) (told vs.entries) vs.right in
     let overs = of-two value_of (λ w. w.over_it) (told vs.entries) vs.right in
     ⊎_elim
-    (λ q. absurd (none-false v x f (told ts.entries) points ts.right faces all q))
+    (λ q. absurd (none-refuted v x f (told ts.entries) points ts.right is faces (all-given v x _ truth) all q))
     (λ q. same-told v val g overs r s (value_told g r) (value_told g s) refl refl q)
-    (or_cases (list_any (λ q. told_false (truth_told f (told ts.entries) q)) faces) _ ts.passes)
+    (or_cases (are_refuted is faces f (told ts.entries)) _ ts.passes)
+
+pub agree-same : (v : Parts trees) (x : Point) (val : Valuation) → LiesOver x val → (names : List Bool) (faces : List Normal) (r s : Normal) → AllTrue v x faces → agree_under names faces r s ≡ true → value val (filled v r) ≡ value val (filled v s)
+agree-same v x val over names faces r s all h =
+    agree-over v x val over names (distinct (formula_atoms r ++ (formula_atoms s ++ all_atoms value_atoms faces))) (distinct (all_atoms face_atoms faces)) faces r s all h

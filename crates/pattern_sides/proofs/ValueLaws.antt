@@ -1,6 +1,9 @@
 -- Values of formulas and truths of faces: under a renaming, at a point, and under the valuations over it.
-use Rattle.std.proofs.Common.{◌≡◌, ◌⊎◌, inl, inr, ℕ, zero, suc, List, [], ◌∷◌, map, drop, Bool, true, false, ◌&&◌, ◌||◌, refl, sym, ◌∙◌, ap, ap₂, subst}
+use Rattle.std.proofs.Common.{◌≡◌, ◌⊎◌, inl, inr, ℕ, zero, suc, List, [], ◌∷◌, map, drop, Bool, true, false, ◌&&◌, ◌||◌, cond, refl, sym, ◌∙◌, ap, ap₂, subst}
+use Rattle.std.specs.List.{All}
+use Rattle.std.proofs.lemmas.List.Elements.{All-head, All-tail}
 use Rattle.std.proofs.Math.ListN.{get_or-map}
+use Rattle.trees.specs.Language.{Holds}
 use Rattle.trees.specs.declared.op.Op.TheVariants as op
 use Rattle.trees.specs.Trees.{Tree, Var, Make, NoTrees, More, apply, shift_by}
 use Rattle.trees.specs.Judgements.{trees}
@@ -11,15 +14,16 @@ use Rattle.points.specs.Points.{Coordinate, AtZero, AtOne, Free, Point, coordina
 use Rattle.patterns.specs.Patterns.{ContextPart, Empty, AddVar, AddName, AddFace}
 use Rattle.patterns.specs.Values.{Parts}
 use Rattle.patterns.specs.Normals.{Normal, NormalContext, NShift, apply_normal}
-use Rattle.patterns.specs.Fillings.{filled, filled_context}
+use Rattle.patterns.specs.Fillings.{filled, filled_context, filled_condition}
+use Rattle.patterns.specs.Tests.{NormalCondition, same_normal_context}
 use Rattle.patterns.proofs.NormalLaws.{filled-apply_normal}
-use Rattle.patterns.proofs.SameLaws.{both}
-use Rattle.conditions.specs.Sides.{value, is_true, Satisfies}
-use Rattle.pattern_sides.specs.Truths.{faces_of}
+use Rattle.patterns.proofs.SameLaws.{both, same_normal_context-true}
+use Rattle.conditions.specs.Sides.{value, is_true, Satisfies, SideHolds}
+use Rattle.pattern_sides.specs.Truths.{with_held, faces_of}
 
 -- a renamed tree
 
-value-rename : (t : Tree) (f : ℕ → ℕ) (v w : Valuation) → ((k : ℕ) → value_at v (f k) ≡ value_at w k) → value v (rename t f) ≡ value w t
+pub value-rename : (t : Tree) (f : ℕ → ℕ) (v w : Valuation) → ((k : ℕ) → value_at v (f k) ≡ value_at w k) → value v (rename t f) ≡ value w t
 value-rename (Var k) f v w h = h k
 value-rename (Make op.I0 NoTrees) f v w h = refl
 value-rename (Make op.I1 NoTrees) f v w h = refl
@@ -41,7 +45,7 @@ is_true-rename (Make op.Join (More p (More q NoTrees))) f x y h = ap₂ ◌||◌
 is_true-rename (Make op.All (More p NoTrees)) f x y h = is_true-rename p (beneath f) (Free ∷ x) (Free ∷ y) (free-beneath f x y h)
 is_true-rename _ f x y h = refl
 
-dropped : (x : Point) (k : ℕ) → value_at (valuation_of x) (suc k) ≡ value_at (valuation_of (drop 1 x)) k
+pub dropped : (x : Point) (k : ℕ) → value_at (valuation_of x) (suc k) ≡ value_at (valuation_of (drop 1 x)) k
 dropped [] k = refl
 dropped (c ∷ rest) k = refl
 
@@ -59,12 +63,30 @@ all_true-up v x [] h = tt
 all_true-up v x (p ∷ ps) h =
     (ap (is_true x) (filled-apply_normal v (NShift 1) p) ∙ is_true-up x (filled v p) ∙ h.0, all_true-up v x ps h.1)
 
-pub faces-true : (v : Parts trees) (G : NormalContext) (x : Point) → Satisfies (filled_context v G) x → AllTrue v x (faces_of G)
-faces-true v (ContextPart k) x s = tt
-faces-true v Empty x s = tt
-faces-true v (AddVar G A) x s = all_true-up v x (faces_of G) (faces-true v G (drop 1 x) s)
-faces-true v (AddName G) x s = all_true-up v x (faces_of G) (faces-true v G (drop 1 x) s)
-faces-true v (AddFace G p) x s = (s.1.1, faces-true v G x s.0)
+-- what conditions say to hold in the context
+
+held-one : (v : Parts trees) (G : NormalContext) (x : Point) → Satisfies (filled_context v G) x → (H : NormalContext) (p : Normal) (cs : List NormalCondition) (ps : List Normal) → SideHolds (filled_condition v (Holds H p)) → (b : Bool) → same_normal_context H G ≡ b → AllTrue v x (with_held G cs ps) → AllTrue v x (cond b (p ∷ with_held G cs ps) (with_held G cs ps))
+held-one v G x s H p cs ps here true same rest =
+    ((here x (subst (λ K. Satisfies (filled_context v K) x) (sym (same_normal_context-true H G same)) s)).1, rest)
+held-one v G x s H p cs ps here false same rest = rest
+
+held-true : (v : Parts trees) (G : NormalContext) (x : Point) → Satisfies (filled_context v G) x → (cs : List NormalCondition) → All SideHolds (map (filled_condition v) cs) → (ps : List Normal) → AllTrue v x ps → AllTrue v x (with_held G cs ps)
+held-true v G x s [] holds ps all = all
+held-true v G x s (Holds H p ∷ cs) holds ps all =
+    held-one v G x s H p cs ps (All-head SideHolds (filled_condition v (Holds H p)) (map (filled_condition v) cs) holds) (same_normal_context H G) refl
+    (held-true v G x s cs (All-tail SideHolds (filled_condition v (Holds H p)) (map (filled_condition v) cs) holds) ps all)
+held-true v G x s (c ∷ cs) holds ps all =
+    held-true v G x s cs (All-tail SideHolds (filled_condition v c) (map (filled_condition v) cs) holds) ps all
+
+pub faces-true : (v : Parts trees) (facts : List NormalCondition) → All SideHolds (map (filled_condition v) facts) → (G : NormalContext) (x : Point) → Satisfies (filled_context v G) x → AllTrue v x (faces_of facts G)
+faces-true v facts holds (ContextPart k) x s = held-true v (ContextPart k) x s facts holds [] tt
+faces-true v facts holds Empty x s = held-true v Empty x s facts holds [] tt
+faces-true v facts holds (AddVar G A) x s =
+    held-true v (AddVar G A) x s facts holds (map (apply_normal (NShift 1)) (faces_of facts G)) (all_true-up v x (faces_of facts G) (faces-true v facts holds G (drop 1 x) s))
+faces-true v facts holds (AddName G) x s =
+    held-true v (AddName G) x s facts holds (map (apply_normal (NShift 1)) (faces_of facts G)) (all_true-up v x (faces_of facts G) (faces-true v facts holds G (drop 1 x) s))
+faces-true v facts holds (AddFace G p) x s =
+    held-true v (AddFace G p) x s facts holds (p ∷ faces_of facts G) (s.1.1, faces-true v facts holds G x s.0)
 
 -- at a point no formula is 1 and 0
 
@@ -142,7 +164,7 @@ meet-zero w = ap₂ worth (and-false w.holds) (or-true w.fails)
 join-one : (w : Value) → join w one_value ≡ one_value
 join-one w = ap₂ worth (or-true w.holds) (and-false w.fails)
 
-above-meet : (p q v w : Value) → IsAbove p v → IsAbove q w → IsAbove (meet p q) (meet v w)
+pub above-meet : (p q v w : Value) → IsAbove p v → IsAbove q w → IsAbove (meet p q) (meet v w)
 above-meet p q v w a b = record {
   if_one = λ h. let f = both p.holds q.holds h in ap₂ meet (a.if_one f.0) (b.if_one f.1);
   if_zero = λ h. by_side (or_cases p.fails q.fails h);
@@ -152,7 +174,7 @@ above-meet p q v w a b = record {
     by_side (inl h) = ap (λ z. meet z w) (a.if_zero h)
     by_side (inr h) = ap (meet v) (b.if_zero h) ∙ meet-zero v
 
-above-join : (p q v w : Value) → IsAbove p v → IsAbove q w → IsAbove (join p q) (join v w)
+pub above-join : (p q v w : Value) → IsAbove p v → IsAbove q w → IsAbove (join p q) (join v w)
 above-join p q v w a b = record {
   if_one = λ h. by_side (or_cases p.holds q.holds h);
   if_zero = λ h. let f = both p.fails q.fails h in ap₂ join (a.if_zero f.0) (b.if_zero f.1);
@@ -167,7 +189,7 @@ above-coordinate AtZero w over = record { if_one = λ h. absurd (cc h); if_zero 
 above-coordinate AtOne w over = record { if_one = λ h. over; if_zero = λ h. absurd (cc h) }
 above-coordinate Free w over = record { if_one = λ h. absurd (cc h); if_zero = λ h. absurd (cc h) }
 
-above-free : IsAbove free_value free_value
+pub above-free : IsAbove free_value free_value
 above-free = record { if_one = λ h. absurd (cc h); if_zero = λ h. absurd (cc h) }
 
 pub over-value : (x : Point) (v : Valuation) → LiesOver x v → (t : Tree) → IsAbove (value (valuation_of x) t) (value v t)

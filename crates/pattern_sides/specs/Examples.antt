@@ -23,7 +23,7 @@ does_follow e =
 abbrev pub does_not_follow : Example → Bool
 does_not_follow e = not (does_follow e)
 
--- a context G, a substitution d, and a face p and a formula r of G
+-- a context G, a substitution d, a face p and a formula r of G, and a face q of `G.I`
 abbrev G : ContextPattern
 G = ContextPart 0
 
@@ -35,6 +35,9 @@ r = Part 2
 
 abbrev d : SubstPattern
 d = SubstPart 3
+
+abbrev q : Pattern
+q = Part 5
 
 abbrev up : Pattern → Pattern
 up t = Under t (ShiftBy 1)
@@ -52,14 +55,17 @@ abbrev eq1 : Pattern → Pattern
 eq1 t = Build O.Eq1 (patterns_of (t ∷ []))
 
 abbrev join : Pattern → Pattern → Pattern
-join q s = Build O.Join (patterns_of (q ∷ s ∷ []))
+join s t = Build O.Join (patterns_of (s ∷ t ∷ []))
+
+abbrev all : Pattern → Pattern
+all t = Build O.All (patterns_of (t ∷ []))
 
 -- the name of `G.I`
 abbrev j : Pattern
 j = Index 0
 
 abbrev declared : List ConditionPattern
-declared = IsFace G p ∷ IsFormula G r ∷ []
+declared = IsFace G p ∷ IsFormula G r ∷ IsFace (AddName G) q ∷ []
 
 abbrev example : List ℕ → ConditionPattern → Example
 example name c = record { name = name; facts = declared; condition = c }
@@ -73,6 +79,17 @@ either = join p side
 
 abbrev pushed : Pattern → SubstPattern
 pushed t = Pushed (ShiftBy 0) t
+
+-- q at a formula, and where q is at all of the name
+abbrev q_at : Pattern → Pattern
+q_at t = Under q (pushed t)
+
+abbrev at_all : ContextPattern
+at_all = AddFace G (all q)
+
+-- in G one of p and `(r=0)` holds
+abbrev one_of : List ConditionPattern
+one_of = Holds G (join p (eq0 r)) ∷ declared
 
 abbrev pub examples : List Example
 examples =
@@ -96,6 +113,26 @@ examples =
     ∷ example (codes "min r j is j where r = 1")
     (Alike (AddName (AddFace G (eq1 r)))
     (Pushed (ShiftBy 1) (min (up r) j)) (Pushed (ShiftBy 1) j))
+    ∷ example (codes "all of q gives q at 0") (Holds at_all (q_at i0))
+    ∷ example (codes "all of q gives q at 1") (Holds at_all (q_at i1))
+    ∷ example (codes "all of q gives q at r") (Holds at_all (q_at r))
+    ∷ example (codes "all of q gives q at a name") (Holds (AddName at_all) q)
+    ∷ example (codes "all of q, or r = 0, gives q at neg r, or r = 0")
+    (Holds (AddFace G (join (all q) (eq0 r))) (join (q_at (neg r)) (eq0 r)))
+    ∷ example (codes "all of q or of the name at 0 gives q at 1")
+    (Holds (AddFace G (all (join q (eq0 j)))) (q_at i1))
+    ∷ example (codes "r is 1 where all of the name at 0 or of r at 1 is")
+    (Alike (AddFace G (all (join (eq0 j) (eq1 (up r))))) (pushed r) (pushed i1))
+    ∷ record {
+      name = codes "what is declared to hold, under a name and a face";
+      facts = one_of;
+      condition = Holds (AddName (AddFace G p)) (join (up p) (eq0 (up r)));
+    }
+    ∷ record {
+      name = codes "p where r is 1, and p or r = 0 is declared to hold";
+      facts = one_of;
+      condition = Holds (AddFace G (eq1 r)) p;
+    }
     ∷ record {
       name = codes "a face under an abstract substitution, declared";
       facts = IsFace G (Under p d) ∷ [];
@@ -119,4 +156,20 @@ refusals =
     (Alike G (pushed (min r (neg r))) (pushed i0))
     ∷ example (codes "min r j is j")
     (Alike (AddName G) (Pushed (ShiftBy 1) (min (up r) j)) (Pushed (ShiftBy 1) j))
+    ∷ example (codes "all of q where q is") (Holds (AddFace (AddName G) q) (up (all q)))
+    ∷ example (codes "all of q where q at r is") (Holds (AddFace G (q_at r)) (all q))
+    ∷ example (codes "all of q where q is at both ends")
+    (Holds (AddFace (AddFace G (q_at i0)) (q_at i1)) (all q))
+    ∷ example (codes "q at r where all of q or p is")
+    (Holds (AddFace G (join (all q) p)) (q_at r))
+    ∷ record {
+      name = codes "p, where p or r = 0 is declared to hold";
+      facts = one_of;
+      condition = Holds G p;
+    }
+    ∷ record {
+      name = codes "what is declared to hold below a face, above it";
+      facts = Holds (AddFace G p) (eq0 r) ∷ declared;
+      condition = Holds G (eq0 r);
+    }
     ∷ []

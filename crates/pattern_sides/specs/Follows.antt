@@ -18,7 +18,8 @@ module _ (facts : List NormalCondition) where
   -- formulas that have one value wherever the faces of the context are true
   abbrev pub are_same : NormalContext → Normal → Normal → Bool
   are_same H r s =
-      is_formula_over H r && (is_formula_over H s && agree_under (faces_of H) r s)
+      is_formula_over H r
+      && (is_formula_over H s && agree_under (names_of H) (faces_of facts H) r s)
 
   -- one shift, and at each place equal trees or formulas that are the same
   abbrev pub are_alike : NormalContext → NormalSubst → NormalSubst → Bool
@@ -31,7 +32,8 @@ module _ (facts : List NormalCondition) where
   abbrev pub follows_by_form : NormalCondition → Bool
   follows_by_form (IsFormula G r) = is_formula_over G r
   follows_by_form (IsFace G p) = is_face_over G p
-  follows_by_form (Holds G p) = is_face_over G p && follows_from (faces_of G) p
+  follows_by_form (Holds G p) =
+      is_face_over G p && follows_from (names_of G) (faces_of facts G) p
   follows_by_form (Alike H d e) = are_alike H d e
 
 -- it is one of the others, or follows from them by what it says
