@@ -29,7 +29,9 @@ use Rattle.book.specs.Nodes.{judgement_of}
 use Rattle.recipes.specs.declared.row.Row.{Row}
 use Rattle.recipes.specs.declared.row.Row.TheVariants as row
 use Rattle.recipes.specs.Made.{thing_at, node_at, fields_of, field_at, ShiftIsAtMost}
-use Rattle.recipe_runner.specs.Running.{Builds, Infers, numbers_at}
+use Rattle.recipes.specs.Statements.{Statement}
+use Rattle.recipes.specs.Derivations.{premises_at}
+use Rattle.recipe_runner.specs.Running.{Builds, Infers, Supplies, MayDerive, numbers_at}
 use Rattle.recipe_runner.proofs.NumberLaws.{IsThere, thing-there, node-there, things-there, nodes-there, TwoThere, two-there}
 
 -- the kids of an operator
@@ -123,6 +125,42 @@ rule-there b numbers name ps ns J h =
       };
       shifts = subst ShiftsFit (sym t.are) (All-weaker (ShiftIsAtMost greatest_shift) ShiftFits fits-then c.things c.shifts);
     }
+
+-- an earlier recipe
+
+pub record EarlierThere (earlier : List Statement) (b : Contents) (numbers : List ℕ) (k : ℕ) (ps ns : List ℕ) (gives : List Judgement) : Type 0 where
+  pub statement : Statement
+  pub is : slice_get earlier k ≡ Some statement
+  pub parts_in : All (λ n. n < length numbers) (take (length statement.kinds) ps)
+  pub nodes_in : All (λ n. n < length numbers) (take (length statement.wants) ns)
+  pub may : MayDerive earlier b k (numbers_at numbers (take (length statement.kinds) ps)) (numbers_at numbers (take (length statement.wants) ns)) gives
+
+pub earlier-there : (earlier : List Statement) (b : Contents) (numbers : List ℕ) (k : ℕ) (ps ns : List ℕ) (gives : List Judgement) → Supplies earlier b numbers k ps ns gives → EarlierThere earlier b numbers k ps ns gives
+earlier-there earlier b numbers k ps ns gives h =
+    let s = h.follows.statement in
+    let f = h.follows.follows in
+    let t = things-there b h.known numbers (take (length s.kinds) ps) f.things h.numbers f.things_are in
+    let n = nodes-there b h.known numbers (take (length s.wants) ns) (premises_at s f.things) h.numbers f.premises_are in
+    record {
+      statement = s;
+      is = h.follows.is;
+      parts_in = t.within;
+      nodes_in = n.within;
+      may = record {
+        statement = s;
+        things = f.things;
+        is = h.follows.is;
+        parts_are = t.are;
+        premises_are = n.are;
+        may_stand = f.may_stand;
+        given = f.given;
+      };
+    }
+
+pub derive-along : (earlier : List Statement) (b : Contents) (k : ℕ) (xs ys us vs : List ℕ) (gives : List Judgement) → xs ≡ us → ys ≡ vs → MayDerive earlier b k us vs gives → MayDerive earlier b k xs ys gives
+derive-along earlier b k xs ys us vs gives e f h =
+    subst (λ z. MayDerive earlier b k z ys gives) (sym e)
+    (subst (λ z. MayDerive earlier b k us z gives) (sym f) h)
 
 -- a field of a node
 

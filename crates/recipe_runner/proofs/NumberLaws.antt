@@ -1,5 +1,5 @@
 -- What numbers stand for that earlier rows of a recipe made.
-use Rattle.std.proofs.Common.{◌≡◌, ℕ, zero, suc, ◌<◌, List, [], ◌∷◌, ◌++◌, length, sym, ◌∙◌, ap, arith, Option, Some}
+use Rattle.std.proofs.Common.{◌≡◌, ℕ, zero, suc, ◌<◌, List, [], ◌∷◌, ◌++◌, length, map, sym, ◌∙◌, ap, subst, arith, Option, Some}
 use Rattle.std.specs.Prelude.{slice_index}
 use Rattle.std.specs.List.{All}
 use Rattle.std.proofs.lemmas.List.Elements.{All-nil, All-cons}
@@ -88,7 +88,7 @@ two-there b known made F m n z are e =
       gives = rw (x.is, y.is) o.gives;
     }
 
--- the book extended, and one more number
+-- the book extended, and more numbers
 
 pub numbers-later : (b c : Contents) → Extends b c → (known : List Made) (made : List ℕ) → AreNumbersOf b known made → AreNumbersOf c known made
 numbers-later b c ext [] [] are = tt
@@ -97,8 +97,16 @@ numbers-later b c ext (m ∷ ms) [] are = absurd are
 numbers-later b c ext (AThing x ∷ ms) (n ∷ ns) are = (ext.rows.keeps n x are.0, numbers-later b c ext ms ns are.1)
 numbers-later b c ext (ANode J ∷ ms) (n ∷ ns) are = (ext.conclusions n J are.0, numbers-later b c ext ms ns are.1)
 
-pub numbers-more : (b : Contents) (known : List Made) (made : List ℕ) (m : Made) (n : ℕ) → AreNumbersOf b known made → IsNumberOf b m n → AreNumbersOf b (known ++ m ∷ []) (made ++ n ∷ [])
-numbers-more b [] [] m n are is = (is, tt)
-numbers-more b [] (k ∷ ks) m n are is = absurd are
-numbers-more b (x ∷ xs) [] m n are is = absurd are
-numbers-more b (x ∷ xs) (k ∷ ks) m n are is = (are.0, numbers-more b xs ks m n are.1 is)
+pub numbers-join : (b : Contents) (known : List Made) (made : List ℕ) (new : List Made) (ns : List ℕ) → AreNumbersOf b known made → AreNumbersOf b new ns → AreNumbersOf b (known ++ new) (made ++ ns)
+numbers-join b [] [] new ns are is = is
+numbers-join b [] (k ∷ ks) new ns are is = absurd are
+numbers-join b (x ∷ xs) [] new ns are is = absurd are
+numbers-join b (x ∷ xs) (k ∷ ks) new ns are is = (are.0, numbers-join b xs ks new ns are.1 is)
+
+-- nodes that conclude this
+pub node-numbers : (b : Contents) (Js : List Judgement) (ns : List ℕ) → meanings (book_concludes b) ns ≡ Some Js → AreNumbersOf b (map ANode Js) ns
+node-numbers b [] [] e = tt
+node-numbers b (J ∷ Js) [] e = absurd (cc e)
+node-numbers b Js (n ∷ ns) e =
+    let m = meanings-cons (book_concludes b) n ns Js e in
+    subst (λ Ks. AreNumbersOf b (map ANode Ks) (n ∷ ns)) (sym m.whole) (m.first_is, node-numbers b m.rest ns m.rest_is)

@@ -1,5 +1,5 @@
 -- What a row makes, and how the rows go on.
-use Rattle.std.proofs.Common.{◌≡◌, ℕ, suc, ◌+◌, ◌<◌, ◌≤◌, List, [], ◌∷◌, ◌++◌, drop, length, get_or, refl, sym, ◌∙◌, ap, subst, arith, Option, Some}
+use Rattle.std.proofs.Common.{◌≡◌, ℕ, suc, ◌+◌, ◌<◌, ◌≤◌, List, [], ◌∷◌, ◌++◌, drop, length, map, get_or, refl, sym, ◌∙◌, ap, subst, arith, Option, Some}
 use Rattle.std.specs.Prelude.{slice_index}
 use Rattle.std.proofs.lemmas.Option.{slice_get_within}
 use Rattle.std.proofs.lemmas.List.{drop_all}
@@ -18,8 +18,8 @@ use Rattle.recipes.specs.declared.row.Row.TheVariants as row
 use Rattle.recipes.specs.Made.{Made, AThing, ANode, node_at, built_by}
 use Rattle.recipes.specs.Statements.{Statement}
 use Rattle.recipes.specs.Derivations.{ThenTakes, Makes, Runs, Derives, MayStandAt, premises_at, conclusions_at}
-use Rattle.recipe_runner.specs.Running.{IsNumberOf, AreNumbersOf, Builds, Infers, MakesOne, GoesOn, MayRun, most_added}
-use Rattle.recipe_runner.proofs.NumberLaws.{AreThere, nodes-there, numbers-later, numbers-more}
+use Rattle.recipe_runner.specs.Running.{IsNumberOf, AreNumbersOf, Builds, Infers, Supplies, MakesOne, MakesAll, GoesOn, MayRun, most_added, most_made}
+use Rattle.recipe_runner.proofs.NumberLaws.{AreThere, nodes-there, numbers-later, numbers-join}
 
 -- a row that makes a thing of what earlier rows made
 pub record MakesThing (b : Contents) (made : List ℕ) (r : Row) (m : Made) : Type 0 where
@@ -89,15 +89,51 @@ makes-node b parts premises made name ps ns m h =
 
 -- a row that is of no earlier recipe makes one thing or node
 
-record MakesSome (new : List Made) : Type 0 where
-  one : Made
-  is : new ≡ one ∷ []
+pub record IsOne (b : Contents) (parts premises made : List ℕ) (r : Row) (new : List Made) : Type 0 where
+  pub one : Made
+  pub is : new ≡ one ∷ []
+  pub makes : MakesOne b parts premises made r one
 
-makes-one : (things : List Thing) (judgements : List Judgement) (known : List Made) (r : Row) (new : List Made) → Makes [] things judgements known r new → MakesSome new
-makes-one things judgements known (row.Premise k) new h = record { one = ANode h.0; is = h.2 }
-makes-one things judgements known (row.Conclude name ps ns) new h = record { one = ANode h.0; is = h.2 }
-makes-one things judgements known (row.Derive k ps ns) new h = absurd (let e = h.1.is in cc e)
-makes-one things judgements known r new h = record { one = AThing h.0; is = h.3 }
+one-is : (earlier : List Statement) (b : Contents) (parts premises made : List ℕ) (r : Row) (new : List Made) → (h : MakesAll earlier b parts premises made r new) → (m : Made) → new ≡ m ∷ [] → Makes [] h.things h.judgements h.known r (m ∷ []) → IsOne b parts premises made r new
+one-is earlier b parts premises made r new h m is makes = record {
+  one = m;
+  is = is;
+  makes = record {
+    things = h.things;
+    judgements = h.judgements;
+    known = h.known;
+    parts_are = h.parts_are;
+    premises_are = h.premises_are;
+    numbers = h.numbers;
+    makes = makes;
+  };
+}
+
+pub makes-one : (earlier : List Statement) (b : Contents) (parts premises made : List ℕ) (r : Row) (new : List Made) → ((k : ℕ) (ps ns : List ℕ) → r ≡ row.Derive k ps ns → ⊥) → MakesAll earlier b parts premises made r new → IsOne b parts premises made r new
+makes-one earlier b parts premises made (row.Derive k ps ns) new other h = absurd (other k ps ns refl)
+makes-one earlier b parts premises made (row.Premise k) new other h =
+    one-is earlier b parts premises made (row.Premise k) new h (ANode h.makes.0) h.makes.2 (h.makes.0, h.makes.1, refl)
+makes-one earlier b parts premises made (row.Conclude name ps ns) new other h =
+    one-is earlier b parts premises made (row.Conclude name ps ns) new h (ANode h.makes.0) h.makes.2 (h.makes.0, h.makes.1, refl)
+makes-one earlier b parts premises made r new other h =
+    one-is earlier b parts premises made r new h (AThing h.makes.0) h.makes.3 (h.makes.0, h.makes.1, h.makes.2, refl)
+
+-- a row of an earlier recipe makes nodes
+
+pub record MakesNodes (earlier : List Statement) (b : Contents) (made : List ℕ) (k : ℕ) (ps ns : List ℕ) (new : List Made) : Type 0 where
+  pub gives : List Judgement
+  pub supplies : Supplies earlier b made k ps ns gives
+  pub same : new ≡ map ANode gives
+
+pub makes-nodes : (earlier : List Statement) (b : Contents) (parts premises made : List ℕ) (k : ℕ) (ps ns : List ℕ) (new : List Made) → MakesAll earlier b parts premises made (row.Derive k ps ns) new → MakesNodes earlier b made k ps ns new
+makes-nodes earlier b parts premises made k ps ns new h = record {
+  gives = h.makes.0;
+  supplies = record { known = h.known; numbers = h.numbers; follows = h.makes.1 };
+  same = h.makes.2;
+}
+
+pub all-as : (earlier : List Statement) (b : Contents) (parts premises made : List ℕ) (r s : Row) (new : List Made) → r ≡ s → MakesAll earlier b parts premises made r new → MakesAll earlier b parts premises made s new
+all-as earlier b parts premises made r s new e h = subst (λ z. MakesAll earlier b parts premises made z new) e h
 
 -- the rows, one after the other
 
@@ -107,8 +143,8 @@ goes-on f g keeps (k ∷ ks) xs e =
     let m = meanings-cons f k ks xs e in
     rw (keeps k m.first m.first_is, goes-on f g keeps ks m.rest m.rest_is) (ap Some (sym m.whole))
 
-pub begins : (b : Contents) (rows : List Row) (outs parts premises : List ℕ) (gives : List Judgement) → (h : MayRun b rows outs parts premises gives) → GoesOn b parts premises [] rows h.runs.whole
-begins b rows outs parts premises gives h = record {
+pub begins : (earlier : List Statement) (b : Contents) (rows : List Row) (outs parts premises : List ℕ) (gives : List Judgement) → (h : MayRun earlier b rows outs parts premises gives) → GoesOn earlier b parts premises [] rows h.runs.whole
+begins earlier b rows outs parts premises gives h = record {
   things = h.things;
   judgements = h.judgements;
   known = [];
@@ -118,49 +154,43 @@ begins b rows outs parts premises gives h = record {
   runs = h.runs.runs;
 }
 
-pub record Next (b : Contents) (parts premises made : List ℕ) (r : Row) (rows : List Row) (whole : List Made) : Type 0 where
-  pub one : Made
-  pub makes : MakesOne b parts premises made r one
-  pub goes : (c : Contents) → Extends b c → (n : ℕ) → IsNumberOf c one n → GoesOn c parts premises (made ++ n ∷ []) rows whole
+pub record Next (earlier : List Statement) (b : Contents) (parts premises made : List ℕ) (r : Row) (rows : List Row) (whole : List Made) : Type 0 where
+  pub new : List Made
+  pub makes : MakesAll earlier b parts premises made r new
+  pub goes : (c : Contents) → Extends b c → (ns : List ℕ) → AreNumbersOf c new ns → GoesOn earlier c parts premises (made ++ ns) rows whole
 
-pub next : (b : Contents) (parts premises made : List ℕ) (r : Row) (rows : List Row) (whole : List Made) → GoesOn b parts premises made (r ∷ rows) whole → Next b parts premises made r rows whole
-next b parts premises made r rows whole h =
-    let new = h.runs.0 in
-    let rest = h.runs.1 in
-    let m = makes-one h.things h.judgements h.known r new rest.0 in
-    let M : List Made → Type 0 = λ z. Makes [] h.things h.judgements h.known r z in
-    let R : List Made → Type 0 = λ z. Runs [] h.things h.judgements (h.known ++ z) rows whole in
-    record {
-      one = m.one;
-      makes = record {
-        things = h.things;
-        judgements = h.judgements;
-        known = h.known;
-        parts_are = h.parts_are;
-        premises_are = h.premises_are;
-        numbers = h.numbers;
-        makes = subst M m.is rest.0;
-      };
-      goes = λ c ext n is. record {
-        things = h.things;
-        judgements = h.judgements;
-        known = h.known ++ m.one ∷ [];
-        parts_are = goes-on (book_means b) (book_means c) ext.rows.keeps parts h.things h.parts_are;
-        premises_are = goes-on (book_concludes b) (book_concludes c) ext.conclusions premises h.judgements h.premises_are;
-        numbers = numbers-more c h.known made m.one n (numbers-later b c ext h.known made h.numbers) is;
-        runs = subst R m.is rest.1;
-      };
-    }
+pub next : (earlier : List Statement) (b : Contents) (parts premises made : List ℕ) (r : Row) (rows : List Row) (whole : List Made) → GoesOn earlier b parts premises made (r ∷ rows) whole → Next earlier b parts premises made r rows whole
+next earlier b parts premises made r rows whole h = record {
+  new = h.runs.0;
+  makes = record {
+    things = h.things;
+    judgements = h.judgements;
+    known = h.known;
+    parts_are = h.parts_are;
+    premises_are = h.premises_are;
+    numbers = h.numbers;
+    makes = h.runs.1.0;
+  };
+  goes = λ c ext ns is. record {
+    things = h.things;
+    judgements = h.judgements;
+    known = h.known ++ h.runs.0;
+    parts_are = goes-on (book_means b) (book_means c) ext.rows.keeps parts h.things h.parts_are;
+    premises_are = goes-on (book_concludes b) (book_concludes c) ext.conclusions premises h.judgements h.premises_are;
+    numbers = numbers-join c h.known made h.runs.0 ns (numbers-later b c ext h.known made h.numbers) is;
+    runs = h.runs.1.1;
+  };
+}
 
 -- the row at a place, and those behind it
-pub turn : (b : Contents) (parts premises made : List ℕ) (rows : List Row) (i : ℕ) (d : Row) (whole : List Made) → i < length rows → GoesOn b parts premises made (drop i rows) whole → Next b parts premises made (get_or rows i d) (drop (i + 1) rows) whole
-turn b parts premises made rows i d whole lt h =
+pub turn : (earlier : List Statement) (b : Contents) (parts premises made : List ℕ) (rows : List Row) (i : ℕ) (d : Row) (whole : List Made) → i < length rows → GoesOn earlier b parts premises made (drop i rows) whole → Next earlier b parts premises made (get_or rows i d) (drop (i + 1) rows) whole
+turn earlier b parts premises made rows i d whole lt h =
     let one_more : suc i ≡ i + 1 = omega arith in
     let cut = drop-cons rows i d lt ∙ ap (λ k. get_or rows i d ∷ drop k rows) one_more in
-    next b parts premises made (get_or rows i d) (drop (i + 1) rows) whole (subst (λ z. GoesOn b parts premises made z whole) cut h)
+    next earlier b parts premises made (get_or rows i d) (drop (i + 1) rows) whole (subst (λ z. GoesOn earlier b parts premises made z whole) cut h)
 
-pub none-left : (b : Contents) (parts premises made : List ℕ) (rows : List Row) (i : ℕ) (whole : List Made) → length rows ≤ i → GoesOn b parts premises made (drop i rows) whole → GoesOn b parts premises made [] whole
-none-left b parts premises made rows i whole le h = subst (λ z. GoesOn b parts premises made z whole) (drop_all i rows le) h
+pub none-left : (earlier : List Statement) (b : Contents) (parts premises made : List ℕ) (rows : List Row) (i : ℕ) (whole : List Made) → length rows ≤ i → GoesOn earlier b parts premises made (drop i rows) whole → GoesOn earlier b parts premises made [] whole
+none-left earlier b parts premises made rows i whole le h = subst (λ z. GoesOn earlier b parts premises made z whole) (drop_all i rows le) h
 
 pub extends-further : (b c d : Contents) → Extends b c → Extends c d → Extends b d
 extends-further b c d f g = record {
@@ -178,17 +208,27 @@ most_rows-some (Composition CompGlue) = omega arith
 most_rows-some (Composition CompU) = omega arith
 most_rows-some _ = omega arith
 
-pub most_added-some : (r : Row) → 1 ≤ most_added r
+pub most_added-some : (r : Row) → 1 ≤ most_added (λ k. 1) r
 most_added-some (row.Conclude name ps ns) = most_rows-some name
 most_added-some _ = omega arith
 
-pub ends : (b : Contents) (parts premises made : List ℕ) (whole : List Made) → GoesOn b parts premises made [] whole → (outs : List ℕ) (gives : List Judgement) → meanings (node_at whole) outs ≡ Some gives → AreThere (book_concludes b) made outs gives
-ends b parts premises made whole h outs gives e =
+-- a row of no earlier recipe adds as much whatever these add, and makes one thing or node
+
+pub most-same : (most : ℕ → ℕ) (r : Row) → ((k : ℕ) (ps ns : List ℕ) → r ≡ row.Derive k ps ns → ⊥) → most_added (λ k. 1) r ≡ most_added most r
+most-same most (row.Derive k ps ns) other = absurd (other k ps ns refl)
+most-same most _ other = refl
+
+pub one-made : (r : Row) → 1 ≤ most_made r
+one-made (row.Derive k ps ns) = omega arith
+one-made _ = omega arith
+
+pub ends : (earlier : List Statement) (b : Contents) (parts premises made : List ℕ) (whole : List Made) → GoesOn earlier b parts premises made [] whole → (outs : List ℕ) (gives : List Judgement) → meanings (node_at whole) outs ≡ Some gives → AreThere (book_concludes b) made outs gives
+ends earlier b parts premises made whole h outs gives e =
     nodes-there b whole made outs gives (subst (λ k. AreNumbersOf b k made) h.runs h.numbers) e
 
 -- what is derived may be run
-pub may-run : (b : Contents) (s : Statement) (rows : List Row) (outs parts premises : List ℕ) (things : List Thing) → Derives [] s rows outs → meanings (book_means b) parts ≡ Some things → MayStandAt s things → meanings (book_concludes b) premises ≡ Some (premises_at s things) → MayRun b rows outs parts premises (conclusions_at s things)
-may-run b s rows outs parts premises things d parts_are may premises_are = record {
+pub may-run : (earlier : List Statement) (b : Contents) (s : Statement) (rows : List Row) (outs parts premises : List ℕ) (things : List Thing) → Derives earlier s rows outs → meanings (book_means b) parts ≡ Some things → MayStandAt s things → meanings (book_concludes b) premises ≡ Some (premises_at s things) → MayRun earlier b rows outs parts premises (conclusions_at s things)
+may-run earlier b s rows outs parts premises things d parts_are may premises_are = record {
   things = things;
   judgements = premises_at s things;
   parts_are = parts_are;

@@ -1,6 +1,6 @@
 //! The interpreter of recipes.
 
-ghost use Rattle.std.specs.Prelude.{◌≡◌, ◌≤◌, ◌<◌, ◌+◌, ◌∷◌, List, Some, IfOk, IsOk, length};
+ghost use Rattle.std.specs.Prelude.{◌≡◌, ◌≤◌, ◌<◌, ◌+◌, ℕ, [], ◌∷◌, List, Some, IfOk, IsOk, length};
 ghost use Rattle.std.specs.Prelude.{slice_index, take};
 ghost use Rattle.std.specs.List.{All};
 ghost use Rattle.theory.specs.RuleNames.{kinds_of, premises_of};
@@ -10,12 +10,14 @@ ghost use Rattle.rules.specs.Schemas.{most_rows};
 ghost use Rattle.book.specs.Shown.{book_means, book_concludes, Extends};
 ghost use Rattle.recipes.specs.Made.{Made};
 ghost use Rattle.recipes.specs.declared.row.Row.TheVariants as row;
-ghost use Rattle.recipe_runner.specs.Running.{MayRun, MakesOne, Builds, Infers, IsNumberOf};
-ghost use Rattle.recipe_runner.specs.Running.{most_added, most_added_by, numbers_at};
+ghost use Rattle.recipe_runner.specs.Running.{MayRun, MakesAll, MakesOne, Builds, Infers, Supplies};
+ghost use Rattle.recipe_runner.specs.Running.{IsNumberOf, AreNumbersOf, numbers_at};
+ghost use Rattle.recipe_runner.specs.Running.{most_added, most_added_by, most_made, most_made_by};
 
+use crate::earlier::Earlier;
 use crate::numbers::Numbers;
 use book::{Book, Few, NodeId, RuleUse};
-use recipes::{MOST_PARTS, MOST_WANTED, Row};
+use recipes::{MOST_PARTS, MOST_PREMISES, MOST_WANTED, Row};
 use rows::Maker;
 use std::alloc::AllocError;
 use theory::{Op, RuleName, count_parts, count_premises, kid_count};
@@ -107,6 +109,7 @@ fn build(book: &mut Book, made: &[u64], row: &Row) -> Result<u64, AllocError>
 }
 
 /// What a row makes over parts, premises and what earlier rows made: the number of its row or node.
+/// A row of an earlier recipe is not asked for.
 fn make(
     book: &mut Book,
     parts: &[u64],
@@ -115,8 +118,8 @@ fn make(
     row: &Row,
 ) -> Result<u64, AllocError>
     requires { (m : Made) × MakesOne book.old parts.now premises.now made.now row.now m }
-    ensures covered { most_added row.now ≤ book.old.spare → IsOk result }
-    ensures spends { book.old.spare ≤ book.new.spare + most_added row.now }
+    ensures covered { most_added (λ k. 1) row.now ≤ book.old.spare → IsOk result }
+    ensures spends { book.old.spare ≤ book.new.spare + most_added (λ k. 1) row.now }
     ensures extends { Extends book.old book.new }
     ensures makes { IfOk result (λ at. (m : Made) →
         MakesOne book.old parts.now premises.now made.now row.now m → IsNumberOf book.new m at) }
@@ -131,33 +134,94 @@ fn make(
     }
 }
 
+/// An earlier recipe over the parts and nodes that earlier rows made.
+fn derive<E: Earlier>(
+    book: &mut Book,
+    earlier: &E,
+    made: &[u64],
+    recipe: u16,
+    parts: &[u16; MOST_PARTS],
+    nodes: &[u16; MOST_PREMISES],
+) -> Result<Few, AllocError>
+    requires { (gives : List Judgement) ×
+        Supplies (E.states earlier.now) book.old made.now recipe parts.now nodes.now gives }
+    ensures covered { E.most earlier.now recipe ≤ book.old.spare → IsOk result }
+    ensures spends { book.old.spare ≤ book.new.spare + E.most earlier.now recipe }
+    ensures extends { Extends book.old book.new }
+    ensures concludes { IfOk result (λ numbers. (gives : List Judgement) →
+        Supplies (E.states earlier.now) book.old made.now recipe parts.now nodes.now gives →
+        meanings (book_concludes book.new) numbers ≡ Some gives) }
+{
+    let parts = picked(made, parts.split_at(earlier.count_parts(recipe)).0);
+    let premises = picked(made, nodes.split_at(earlier.count_premises(recipe)).0);
+    Ok(earlier.derive(book, recipe, parts.as_slice(), premises.as_slice())?)
+}
+
+/// The list of one number.
+fn only(number: u64) -> Few
+    ensures { result ≡ number ∷ [] }
+{
+    let mut few = Few::new();
+    few.push(number);
+    few
+}
+
+/// What a row makes: one number, or of an earlier recipe those of what it gives.
+fn make_all<E: Earlier>(
+    book: &mut Book,
+    earlier: &E,
+    parts: &[u64],
+    premises: &[u64],
+    made: &[u64],
+    row: &Row,
+) -> Result<Few, AllocError>
+    requires { (new : List Made) ×
+        MakesAll (E.states earlier.now) book.old parts.now premises.now made.now row.now new }
+    ensures covered { most_added (E.most earlier.now) row.now ≤ book.old.spare → IsOk result }
+    ensures spends { book.old.spare ≤ book.new.spare + most_added (E.most earlier.now) row.now }
+    ensures extends { Extends book.old book.new }
+    ensures few { IfOk result (λ numbers. length numbers ≤ most_made row.now) }
+    ensures makes { IfOk result (λ numbers. (new : List Made) →
+        MakesAll (E.states earlier.now) book.old parts.now premises.now made.now row.now new →
+        AreNumbersOf book.new new numbers) }
+{
+    match *row {
+        Row::Derive(recipe, at, nodes) => Ok(derive(book, earlier, made, recipe, &at, &nodes)?),
+        _ => Ok(only(make(book, parts, premises, made, row)?)),
+    }
+}
+
 /// Runs a recipe at parts, which are rows, and premises, which are nodes: the nodes that `outs`
-/// names. It adds at most as many rows and nodes as its rows say.
+/// names. It adds at most as many rows and nodes as its rows say, those of earlier recipes among
+/// them.
 ///
 /// # Errors
 /// Only where memory runs out that the spare does not cover.
-pub fn run(
+pub fn run<E: Earlier>(
     book: &mut Book,
+    earlier: &E,
     rows: &[Row],
     outs: &[u16],
     parts: &[u64],
     premises: &[u64],
 ) -> Result<Few, AllocError>
-    requires rows { length rows.now ≤ 512 }
+    requires rows { most_made_by rows.now ≤ 512 }
     requires outs { length outs.now ≤ 16 }
-    requires right { (gives : List Judgement) ×
-        MayRun book.old rows.now outs.now parts.now premises.now gives }
-    ensures covered { most_added_by rows.now ≤ book.old.spare → IsOk result }
-    ensures spends { book.old.spare ≤ book.new.spare + most_added_by rows.now }
+    requires right { (gives : List Judgement) × MayRun (E.states earlier.now) book.old
+        rows.now outs.now parts.now premises.now gives }
+    ensures covered { most_added_by (E.most earlier.now) rows.now ≤ book.old.spare →
+        IsOk result }
+    ensures spends { book.old.spare ≤
+        book.new.spare + most_added_by (E.most earlier.now) rows.now }
     ensures extends { Extends book.old book.new }
     ensures concludes { IfOk result (λ nodes. (gives : List Judgement) →
-        MayRun book.old rows.now outs.now parts.now premises.now gives →
+        MayRun (E.states earlier.now) book.old rows.now outs.now parts.now premises.now gives →
         meanings (book_concludes book.new) nodes ≡ Some gives) }
 {
     let mut made = Numbers::new();
     for row in rows {
-        let number = make(book, parts, premises, made.as_slice(), row)?;
-        made.push(number);
+        let numbers = make_all(book, earlier, parts, premises, made.as_slice(), row)?;
+        made.append(numbers.as_slice());
     }
     Ok(picked(made.as_slice(), outs))
 }

@@ -1,10 +1,10 @@
 //! What rows of a recipe made, as numbers of rows and nodes.
 
-ghost use Rattle.std.specs.Prelude.{◌≡◌, ◌<◌, ◌≤◌, ◌++◌, ◌∷◌, [], length};
+ghost use Rattle.std.specs.Prelude.{◌≡◌, ◌+◌, ◌<◌, ◌≤◌, ◌++◌, ◌∷◌, [], length};
 
 use std::marker::Model;
 
-/// The most rows of a recipe that is run.
+/// The most numbers that the rows of a recipe make.
 pub const MOST_ROWS: usize = 512;
 
 /// A list of at most 512 numbers, held in place, so that no row of it wants memory. Contracts see
@@ -43,6 +43,16 @@ impl Numbers {
     {
         self.cells[self.count] = number;
         self.count += 1;
+    }
+
+    /// Appends some.
+    pub fn append(&mut self, numbers: &[u64])
+        requires { length self.old + length numbers.now ≤ 512 }
+        ensures { self.new ≡ self.old ++ numbers.now }
+    {
+        for number in numbers {
+            self.push(*number);
+        }
     }
 
     pub fn as_slice(&self) -> &[u64]
