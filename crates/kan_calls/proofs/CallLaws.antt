@@ -1,0 +1,76 @@
+-- A call runs a recipe that is right, and gives what it states.
+use Rattle.std.proofs.Common.{◌≡◌, ℕ, zero, suc, ◌<◌, List, [], ◌∷◌, length, take, drop, refl, sym, ◌∙◌, ap, ap₂, subst, arith, Some}
+use Rattle.std.specs.Prelude.{slice_get, slice_index}
+use Rattle.trees.specs.Judgements.{Judgement}
+use Rattle.trees.specs.Things.{Thing, meanings}
+use Rattle.trees.proofs.Meanings.{meanings-length}
+use Rattle.book.specs.Contents.{Contents}
+use Rattle.book.specs.Shown.{book_means, book_concludes}
+use Rattle.recipes.specs.declared.row.Row.{Row}
+use Rattle.recipes.specs.Made.{node_at}
+use Rattle.recipes.specs.Statements.{Statement}
+use Rattle.recipes.specs.Derivations.{RunsTo, Derives, MayStandAt, premises_at, conclusions_at}
+use Rattle.recipe_runner.specs.Running.{MayDerive, MayRun}
+use Rattle.kan_calls.specs.Calls.{MayCall}
+
+-- where there is one earlier recipe
+
+only-one : (s t : Statement) (k : ℕ) → slice_get (s ∷ []) k ≡ Some t → s ≡ t
+only-one s t zero e = let same : s ≡ t = cc in same
+only-one s t (suc k) e = absurd (cc e)
+
+-- what a derivation of it asks for
+record Stands (s : Statement) (b : Contents) (premises : List ℕ) (things : List Thing) (gives : List Judgement) : Type 0 where
+  premises_are : meanings (book_concludes b) premises ≡ Some (premises_at s things)
+  may_stand : MayStandAt s things
+  given : gives ≡ conclusions_at s things
+
+stands : (s : Statement) (b : Contents) (k : ℕ) (parts premises : List ℕ) (gives : List Judgement) → (h : MayDerive (s ∷ []) b k parts premises gives) → Stands s b premises h.things gives
+stands s b k parts premises gives h =
+    subst (λ t. Stands t b premises h.things gives) (sym (only-one s h.statement k h.is))
+    (record { premises_are = h.premises_are; may_stand = h.may_stand; given = h.given })
+
+pub may-run-one : (earlier : List Statement) (s : Statement) (b : Contents) (rows : List Row) (outs parts premises : List ℕ) (k : ℕ) (gives : List Judgement) → Derives earlier s rows outs → MayDerive (s ∷ []) b k parts premises gives → MayRun earlier b rows outs parts premises gives
+may-run-one earlier s b rows outs parts premises k gives d h =
+    let t = stands s b k parts premises gives h in
+    record {
+      things = h.things;
+      judgements = premises_at s h.things;
+      parts_are = h.parts_are;
+      premises_are = t.premises_are;
+      runs = subst (λ z. RunsTo earlier h.things (premises_at s h.things) rows outs z) (sym t.given) (d.derives h.things t.may_stand);
+    }
+
+pub count-one : (s t : Statement) (k n : ℕ) (f : Statement → ℕ) → f s ≡ n → slice_get (s ∷ []) k ≡ Some t → n ≡ f t
+count-one s t k n f e at = sym e ∙ ap f (only-one s t k at)
+
+-- a call
+
+pub may-run-call : (earlier : List Statement) (s : Statement) (b : Contents) (rows : List Row) (outs : List ℕ) (ctx : ℕ) (parts premises : List ℕ) (things : List Thing) → Derives earlier s rows outs → MayCall s b ctx parts premises things → MayRun earlier b rows outs parts (ctx ∷ premises) (conclusions_at s things)
+may-run-call earlier s b rows outs ctx parts premises things d h = record {
+  things = things;
+  judgements = premises_at s things;
+  parts_are = h.parts_are;
+  premises_are = h.premises_are;
+  runs = d.derives things h.may_stand;
+}
+
+-- as many premises as the statement wants
+pub call-premises : (s : Statement) (b : Contents) (ctx : ℕ) (parts premises : List ℕ) (things : List Thing) → MayCall s b ctx parts premises things → suc (length premises) ≡ length (premises_at s things)
+call-premises s b ctx parts premises things h =
+    meanings-length (book_concludes b) (ctx ∷ premises) (premises_at s things) h.premises_are
+
+-- as many conclusions as rows are named
+pub run-gives : (earlier : List Statement) (b : Contents) (rows : List Row) (outs parts premises : List ℕ) (gives : List Judgement) → MayRun earlier b rows outs parts premises gives → length outs ≡ length gives
+run-gives earlier b rows outs parts premises gives h =
+    meanings-length (node_at h.runs.whole) outs gives h.runs.outs_are
+
+pub run-along : (earlier : List Statement) (b : Contents) (rows : List Row) (outs xs ys us vs : List ℕ) (gives : List Judgement) → xs ≡ us → ys ≡ vs → MayRun earlier b rows outs us vs gives → MayRun earlier b rows outs xs ys gives
+run-along earlier b rows outs xs ys us vs gives e f h =
+    subst (λ z. MayRun earlier b rows outs z ys gives) (sym e)
+    (subst (λ z. MayRun earlier b rows outs us z gives) (sym f) h)
+
+-- a list that is cut past its first
+pub cut-one : (xs first rest : List ℕ) → 0 < length xs → first ≡ take 1 xs → rest ≡ drop 1 xs → slice_index first 0 ∷ rest ≡ xs
+cut-one [] first rest some e f = absurd (omega arith)
+cut-one (x ∷ xs) first rest some e f = ap₂ (λ u v. slice_index u 0 ∷ v) e f

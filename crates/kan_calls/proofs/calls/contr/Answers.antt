@@ -1,0 +1,26 @@
+use Rattle.std.proofs.Common.{◌≡◌, ℕ, suc, [], ◌∷◌, length, refl, ◌∙◌, arith}
+use Rattle.recipes.specs.Derivations.{conclusions_at}
+use Rattle.recipe_runner.specs.Running.{most_made_by}
+use Rattle.kan_fill.specs.Statements.{contr_statement}
+use Rattle.kan_fill.specs.declared.contr.TheConstants.{CONTR, CONTR_GIVES}
+use Rattle.kan_calls.proofs.CallLaws.{may-run-call, call-premises}
+use Rattle.kan_calls.proofs.calls.contr.Goals as goal
+
+pub call-requires-clause-rows : goal.call-requires-clause-rows
+call-requires-clause-rows c = let e : most_made_by CONTR.now ≡ 67 = refl in omega (arith, e)
+
+pub call-requires-clause-few : goal.call-requires-clause-few
+call-requires-clause-few c =
+    let a = c.args in
+    let e : suc (length a.step.now.premises) ≡ length contr_statement.wants = call-premises contr_statement a.book.now a.ctx.0 a.step.now.parts a.step.now.premises c.requires.0 c.requires.1 in
+    omega (arith, e)
+
+pub call-requires-clause-right : goal.call-requires-clause-right
+call-requires-clause-right c =
+    let a = c.args in
+    (conclusions_at contr_statement c.requires.0, may-run-call [] contr_statement a.book.now CONTR.now CONTR_GIVES.now a.ctx.0 a.step.now.parts a.step.now.premises c.requires.0 c.contraction_is_derived.ensures c.requires.1)
+
+pub returns-clause-gives : goal.returns-clause-gives
+returns-clause-gives c = λ things h.
+    let a = c.args in
+    c.in_ok-call.ensures.gives (conclusions_at contr_statement things) (may-run-call [] contr_statement a.book.now CONTR.now CONTR_GIVES.now a.ctx.0 a.step.now.parts a.step.now.premises things c.contraction_is_derived.ensures h)

@@ -1,0 +1,19 @@
+use Rattle.std.proofs.Common.{◌≡◌, [], refl, arith}
+use Rattle.recipe_runner.specs.Running.{most_made_by}
+use Rattle.kan_fill.specs.Statements.{fill_statement}
+use Rattle.kan_fill.specs.declared.fill.TheConstants.{FILL, FILL_GIVES}
+use Rattle.kan_calls.proofs.CallLaws.{may-run-one}
+use Rattle.kan_calls.proofs.earlier.FillingEarlier.derive.Goals as goal
+
+pub run-requires-clause-rows : goal.run-requires-clause-rows
+run-requires-clause-rows c = let e : most_made_by FILL.now ≡ 273 = refl in omega (arith, e)
+
+pub run-requires-clause-right : goal.run-requires-clause-right
+run-requires-clause-right c =
+    let a = c.args in
+    (c.requires.0, may-run-one [] fill_statement a.book.now FILL.now FILL_GIVES.now a.parts.now a.premises.now a._recipe c.requires.0 c.filling_is_derived.ensures c.requires.1)
+
+pub returns-clause-concludes : goal.returns-clause-concludes
+returns-clause-concludes c = λ gives h.
+    let a = c.args in
+    c.in_ok-run.ensures.concludes gives (may-run-one [] fill_statement a.book.now FILL.now FILL_GIVES.now a.parts.now a.premises.now a._recipe gives c.filling_is_derived.ensures h)

@@ -1,0 +1,15 @@
+//! The derived rules of the Kan operations as calls over a book: filling, contraction, preservation,
+//! and extension of an element of a fiber.
+//!
+//! ```text
+//! let step = Derive { parts, premises };      // G A p b a r, and the premises of `comp`
+//! let filled = fill(book, ctx, &step)?;       // ctx concludes `ctx G`
+//! book.conclusion(filled.typing)              // G >> Fill(i.A, p, i.b, a, r) : A{r}
+//! ```
+#![tactic(auto)]
+
+mod calls;
+mod earlier;
+
+pub use calls::{Derive, Derived, ROWS, contr, equiv, fill, pres};
+pub use earlier::{Contraction, Filling};
