@@ -100,26 +100,32 @@ def judgement(text, names):
     return (form, places)
 
 
-# Normal forms, with the parts unknown. A substitution is a list of trees, the last pushed first,
-# and a shift; of substitutions that are parts none is known.
+# Normal forms, with the parts unknown. A substitution is a list of trees, the last pushed first, and
+# its end: a shift, or what is left of a part without its first entries, and then a substitution.
 
 
 def look(sub, index):
-    pushed, shift = sub
-    return pushed[index] if index < len(pushed) else ("var", index - len(pushed) + shift)
+    pushed, end = sub
+    if index < len(pushed):
+        return pushed[index]
+    past = index - len(pushed)
+    if isinstance(end, int):
+        return ("var", past + end)
+    _, count, part, rest = end
+    return ("entry", part, past + count, trimmed(rest))
 
 
 def raised(sub):
     """A substitution under one binder."""
-    pushed, shift = sub
-    return ((("var", 0),) + tuple(applied(tree, ((), 1)) for tree in pushed), shift + 1)
+    pushed, end = then(sub, ((), 1))
+    return ((("var", 0),) + pushed, end)
 
 
 def applied(tree, sub):
     if tree[0] == "var":
         return look(sub, tree[1])
-    if tree[0] == "part":
-        return ("part", tree[1], trimmed(then(tree[2], sub)))
+    if tree[0] in ("part", "entry"):
+        return tree[:-1] + (trimmed(then(tree[-1], sub)),)
     kids = []
     for kid, binds in zip(tree[2], BINDS[tree[1]]):
         under = sub
@@ -129,19 +135,44 @@ def applied(tree, sub):
     return ("make", tree[1], tuple(kids))
 
 
+def dropped(sub, count):
+    """A substitution without its first entries."""
+    pushed, end = sub
+    past = max(0, count - len(pushed))
+    if isinstance(end, int):
+        return (pushed[count:], end + past)
+    _, entries, part, rest = end
+    return (pushed[count:], ("rest", entries + past, part, rest))
+
+
 def then(first, second):
-    pushed, shift = first
-    rest = tuple(second[0][shift:])
-    return (tuple(applied(tree, second) for tree in pushed) + rest,
-            second[1] + max(0, shift - len(second[0])))
+    pushed, end = first
+    if isinstance(end, int):
+        rest, end = dropped(second, end)
+    else:
+        _, count, part, after = end
+        rest, end = (), ("rest", count, part, then(after, second))
+    return (tuple(applied(tree, second) for tree in pushed) + rest, end)
 
 
 def trimmed(sub):
-    """Without trees at the end that act as a smaller shift."""
-    pushed, shift = sub
-    while pushed and shift and pushed[-1] == ("var", shift - 1):
-        pushed, shift = pushed[:-1], shift - 1
-    return (pushed, shift)
+    """Without trees at the end that act as a smaller shift, or as more of a part."""
+    pushed, end = sub
+    if isinstance(end, int):
+        while pushed and end and pushed[-1] == ("var", end - 1):
+            pushed, end = pushed[:-1], end - 1
+        return (pushed, end)
+    _, count, part, rest = end
+    rest = trimmed(rest)
+    while pushed and count and pushed[-1] == ("entry", part, count - 1, rest):
+        pushed, count = pushed[:-1], count - 1
+    return (pushed, ("rest", count, part, rest))
+
+
+# `equiv T A`, written out.
+FIBER = "sig T[shift 2] (pathp A[shift 4] (var 1) (app (var 2) (var 0)))"
+EQUIV = Things("sig (pi T A+) (pi A+ (sig F (pi F+ (pathp F[shift 3] (var 1) (var 0)))))",
+               {"F": Things(FIBER, {}).tree()}).tree()
 
 
 def normal(thing, at):
@@ -153,6 +184,8 @@ def normal(thing, at):
         return ("var", rest[0])
     if word == "make":
         return ("make", rest[0], tuple(normal(kid, at) for kid in rest[1]))
+    if word == "called" and rest[0] == "equiv":
+        return normal(EQUIV, {part: normal(tree, at) for part, tree in zip("TA", rest[1])})
     if word in ("derived", "called"):
         raise ValueError(f"{rest[0]} is not written out")
     if word == "weakened":
@@ -178,7 +211,9 @@ def normal_judgement(said, at):
 
 def unknown(parts):
     """The parts themselves, unknown."""
-    kinds = {"Term": lambda part: ("part", part, ((), 0)), "Context": lambda part: ("ctx", part)}
+    kinds = {"Term": lambda part: ("part", part, ((), 0)),
+             "Subst": lambda part: ((), ("rest", 0, part, ((), 0))),
+             "Context": lambda part: ("ctx", part)}
     return {part: kinds[KINDS.get(part, "Term")](part) for part in parts}
 
 
@@ -225,7 +260,7 @@ class Recipe:
             return Things(said, self.names).substitution()
         first = Things(said, self.names).named(("part", re.match(r"\w+|\[\]", said)[0]))
         is_context = first[0] in ("nil", "with_name", "with_face", "with_var")
-        is_context |= first[0] == "part" and KINDS.get(first[1]) == "Context"
+        is_context |= first[0] == "part" and (first[1] == "[]" or KINDS.get(first[1]) == "Context")
         reader = Things(said, self.names)
         return reader.context() if is_context else reader.tree()
 

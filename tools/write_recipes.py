@@ -13,8 +13,15 @@ from rule_notation import OPERATORS, families
 
 ROOT = pathlib.Path(__file__).resolve().parent.parent
 
-# The crate of each recipe, and the earlier recipes that it may name, in the order of its statement.
-CRATES = {"fill": "kan_fill", "contr": "kan_fill", "pres": "kan_fill", "equiv": "kan_fill"}
+# The recipes of each crate, and the earlier ones that a recipe may name, in the order of its proof.
+CRATES = {
+    "kan_fill": ["fill", "contr", "pres", "equiv"],
+    "structural": [
+        "lift_var", "lift_name", "lift_face", "swap_face", "swap_faces", "merge_faces",
+        "restrict_ty0", "restrict_ty1", "restrict_tm0", "restrict_tm1", "cover_ty", "cover_tm",
+        "lam_cong", "pair_cong", "plam_cong", "sys_cong", "glue_cong",
+    ],
+}
 EARLIER = {"pres": ["fill"], "equiv": ["contr"]}
 
 WIDTH = 100
@@ -97,12 +104,14 @@ class Table:
         found = sorted(self.used["families"].items(), key=lambda item: item[0].enum)
         for family, variants in found:
             lines.append(f"use theory::{family.enum}::{{{', '.join(sorted(variants))}}};")
-        lines.append("use theory::Op;")
+        if "Make" in self.used["Row"]:
+            lines.append("use theory::Op;")
         variants = ", ".join(sorted(family.variant for family, _ in found))
         lines += [f"use theory::RuleName::{{{variants}}};", ""]
         lines += [f"/// {line}" for line in self.recipe.about]
-        lines += [f"/// Its parts are {' '.join(self.recipe.parts)}.",
-                  f"pub static {name}: &[Row] = table! {{"]
+        if self.recipe.parts:
+            lines.append(f"/// Its parts are {' '.join(self.recipe.parts)}.")
+        lines.append(f"pub static {name}: &[Row] = table! {{")
         for text, comment in self.rows:
             lines += wrapped(comment) + broken(f"    {text},")
         outs = ", ".join(str(self.nodes[node]) for _, node in self.recipe.outs)
@@ -132,7 +141,7 @@ def tupled(thing):
 
 def main():
     recipes = {}
-    for name, crate in CRATES.items():
+    for crate, name in ((crate, name) for crate, names in CRATES.items() for name in names):
         text = (ROOT / "tools" / "recipes" / f"{name}.txt").read_text()
         recipes[name] = Recipe(text, {other: recipes[other] for other in EARLIER.get(name, [])})
         to = ROOT / "crates" / crate / "src" / f"{name}.rt"

@@ -1,5 +1,5 @@
 -- What the test finds a formula or a face is one at all values of the parts.
-use Rattle.std.proofs.Common.{◌≡◌, ℕ, zero, suc, ◌==◌, List, [], ◌∷◌, map, Bool, true, false, cond, refl, sym, ◌∙◌, ap, subst, Option, Some, None}
+use Rattle.std.proofs.Common.{◌≡◌, ⊎_elim, ℕ, zero, suc, ◌==◌, List, [], ◌∷◌, map, Bool, true, false, cond, refl, sym, ◌∙◌, ap, subst, Option, Some, None}
 use Rattle.std.specs.Prelude.{slice_get, unwrap_or}
 use Rattle.std.specs.List.{All}
 use Rattle.std.proofs.lemmas.Bool.{eqb-true}
@@ -11,14 +11,15 @@ use Rattle.trees.specs.Judgements.{Context, WithName, trees}
 use Rattle.substitution.specs.Action.{look}
 use Rattle.substitution.proofs.ThenLaws.{apply-id}
 use Rattle.patterns.specs.Values.{Parts}
-use Rattle.patterns.specs.Normals.{Normal, NormalSubst, NormalContext, NVar, NMake, NPart, NoNormals, MoreNormals, NShift, NPush, NRest}
+use Rattle.patterns.specs.Normals.{Normal, NormalSubst, NormalContext, NVar, NMake, NPart, NoNormals, MoreNormals, NShift, NPush, NRest, same_normal}
 use Rattle.patterns.specs.Fillings.{filled, filled_subst, filled_context, filled_condition}
 use Rattle.patterns.specs.Tests.{NormalCondition, same_normal_context}
-use Rattle.patterns.proofs.SameLaws.{both, same_normal_context-true}
+use Rattle.patterns.proofs.SameLaws.{both, same_normal-true, same_normal_context-true}
 use Rattle.conditions.specs.Sides.{is_name, is_formula, is_face, SideHolds}
-use Rattle.pattern_sides.specs.Formulas.{names_of, base_of, names_over, formula_names, face_names, first_told, found_names, is_formula_in, takes, is_face_in}
+use Rattle.pattern_sides.specs.Formulas.{names_of, base_of, names_over, formula_names, face_names, formula_told, face_told, first_told, found_names, shifts_names, is_told, is_formula_in, takes, is_face_in}
 use Rattle.pattern_sides.proofs.Names.{AreNames, names-rest, names-more, names-filled, name-shifted}
-use Rattle.pattern_sides.proofs.UnderLaws.{and_true, formula-under, face-under}
+use Rattle.pattern_sides.proofs.UnderLaws.{TakesNames, and_true, formula-under, face-under}
+use Rattle.pattern_sides.proofs.ValueLaws.{or_cases}
 
 -- a tree that is P over the names of a context, over this base
 record IsDeclared (P : Context → Tree → Bool) (base : ℕ → Bool) (t : Tree) (ms : List Bool) : Type 0 where
@@ -54,6 +55,20 @@ face-declared : (v : Parts trees) (base : NormalContext) (k : ℕ) (c : NormalCo
 face-declared v base k (IsFace G (NPart l (NShift zero))) ms e h = of-part v is_face base G k l ms (k == l) refl e h
 face-declared v base k _ ms e h = absurd (cc e)
 
+-- the declaration is of this tree
+of-tree : (v : Parts trees) (P : Context → Tree → Bool) (base G : NormalContext) (t u : Normal) (ms : List Bool) (b : Bool) → same_normal t u ≡ b → cond b (names_over base G) None ≡ Some ms → P (filled_context v G) (filled v u) ≡ true → IsDeclared P (is_name (filled_context v base)) (filled v t) ms
+of-tree v P base G t u ms true same e h =
+    over-base v P base G (filled v t) ms (same_normal_context (base_of G) base) refl e (ap (λ z. P (filled_context v G) (filled v z)) (same_normal-true t u same) ∙ h)
+of-tree v P base G t u ms false same e h = absurd (cc e)
+
+told-formula : (v : Parts trees) (base : NormalContext) (t : Normal) (c : NormalCondition) (ms : List Bool) → formula_told base t c ≡ Some ms → SideHolds (filled_condition v c) → IsDeclared is_formula (is_name (filled_context v base)) (filled v t) ms
+told-formula v base t (IsFormula G u) ms e h = of-tree v is_formula base G t u ms (same_normal t u) refl e h
+told-formula v base t _ ms e h = absurd (cc e)
+
+told-face : (v : Parts trees) (base : NormalContext) (t : Normal) (c : NormalCondition) (ms : List Bool) → face_told base t c ≡ Some ms → SideHolds (filled_condition v c) → IsDeclared is_face (is_name (filled_context v base)) (filled v t) ms
+told-face v base t (IsFace G u) ms e h = of-tree v is_face base G t u ms (same_normal t u) refl e h
+told-face v base t _ ms e h = absurd (cc e)
+
 first-told : {X : Type 0} (o rest : Option (List Bool)) (ms : List Bool) → first_told o rest ≡ Some ms → (o ≡ Some ms → X) → (rest ≡ Some ms → X) → X
 first-told (Some ns) rest ms e here later = here e
 first-told None rest ms e here later = later e
@@ -84,6 +99,22 @@ module _ (v : Parts trees) (facts : List NormalCondition) (holds : All SideHolds
       let d = found-declared v is_formula is_base_name (v.tree k) (formula_names base k) (formula-declared v base k) facts holds ms e in
       formula-under d.context K (filled_subst v s) (record { takes = all ms (is_name d.context) d.names h }) (v.tree k) d.is
 
+  -- where the names of a declaration are names, nothing is moved
+  stays : (P : Context → Tree → Bool) (t : Tree) (K : Context) (names ms : List Bool) → AreNames is_base_name names (is_name K) → (d : IsDeclared P is_base_name t ms) → shifts_names ms 0 names ≡ true → TakesNames (is_name d.context) (shift_by 0) K
+  stays P t K names ms over d h = record { takes = λ k e. name-shifted is_base_name ms 0 names (is_name d.context) (is_name K) h d.names over k e }
+
+  formula-told : (K : Context) (names : List Bool) → AreNames is_base_name names (is_name K) → (t : Normal) (o : Option (List Bool)) → found_names (formula_told base t) facts ≡ o → is_told o names ≡ true → is_formula K (filled v t) ≡ true
+  formula-told K names over t None e h = absurd (cc h)
+  formula-told K names over t (Some ms) e h =
+      let d = found-declared v is_formula is_base_name (filled v t) (formula_told base t) (told-formula v base t) facts holds ms e in
+      ap (is_formula K) (sym (apply-id (filled v t))) ∙ formula-under d.context K (shift_by 0) (stays is_formula (filled v t) K names ms over d h) (filled v t) d.is
+
+  face-told : (K : Context) (names : List Bool) → AreNames is_base_name names (is_name K) → (t : Normal) (o : Option (List Bool)) → found_names (face_told base t) facts ≡ o → is_told o names ≡ true → is_face K (filled v t) ≡ true
+  face-told K names over t None e h = absurd (cc h)
+  face-told K names over t (Some ms) e h =
+      let d = found-declared v is_face is_base_name (filled v t) (face_told base t) (told-face v base t) facts holds ms e in
+      ap (is_face K) (sym (apply-id (filled v t))) ∙ face-under (filled v t) d.context K (shift_by 0) (stays is_face (filled v t) K names ms over d h) d.is
+
   mutual
     pub formula-filled : (K : Context) (names : List Bool) → AreNames is_base_name names (is_name K) → (t : Normal) → is_formula_in facts base names t ≡ true → is_formula K (filled v t) ≡ true
     formula-filled K names over (NVar k) h = told-name K names over k (slice_get names k) refl h
@@ -97,7 +128,10 @@ module _ (v : Parts trees) (facts : List NormalCondition) (holds : All SideHolds
         let f = both (is_formula_in facts base names r) (is_formula_in facts base names s) h in
         and_true _ _ (formula-filled K names over r f.0) (formula-filled K names over s f.1)
     formula-filled K names over (NPart k s) h =
-        part-formula K names k s (found_names (formula_names base k) facts) refl h (λ ms is own q j e. takes-filled K names over s ms is own q j e)
+        ⊎_elim
+        (λ e. part-formula K names k s (found_names (formula_names base k) facts) refl e (λ ms is own q j f. takes-filled K names over s ms is own q j f))
+        (λ e. formula-told K names over (NPart k s) (found_names (formula_told base (NPart k s)) facts) refl e)
+        (or_cases (takes facts base names (found_names (formula_names base k) facts) s) _ h)
     formula-filled K names over _ h = absurd (cc h)
 
     pub takes-filled : (K : Context) (names : List Bool) → AreNames is_base_name names (is_name K) → (s : NormalSubst) (ms : List Bool) (is : ℕ → Bool) → AreNames is_base_name ms is → takes facts base names (Some ms) s ≡ true → (k : ℕ) → is k ≡ true → is_formula K (look (filled_subst v s) k) ≡ true
@@ -132,5 +166,9 @@ module _ (v : Parts trees) (facts : List NormalCondition) (holds : All SideHolds
       and_true _ _ (face-filled p K names over f.0) (face-filled q K names over f.1)
   face-filled (NMake op.All (MoreNormals p NoNormals)) K names over h =
       face-filled p (WithName K) (true ∷ names) (names-more is_base_name true names (is_name (WithName K)) (is_name K) refl (λ k. refl) over) h
-  face-filled (NPart k s) K names over h = part-face K names over k s (found_names (face_names base k) facts) refl h
+  face-filled (NPart k s) K names over h =
+      ⊎_elim
+      (λ e. part-face K names over k s (found_names (face_names base k) facts) refl e)
+      (λ e. face-told K names over (NPart k s) (found_names (face_told base (NPart k s)) facts) refl e)
+      (or_cases (takes facts base names (found_names (face_names base k) facts) s) _ h)
   face-filled _ K names over h = absurd (cc h)

@@ -138,6 +138,11 @@ examples =
       facts = IsFace G (Under p d) ∷ [];
       condition = IsFace G (Under p d);
     }
+    ∷ record {
+      name = codes "the same where it is";
+      facts = IsFace G (Under p d) ∷ declared;
+      condition = Holds (AddFace G (Under p d)) (join (Under p d) (eq0 r));
+    }
     ∷ []
 
 abbrev pub refusals : List Example
@@ -171,5 +176,10 @@ refusals =
       name = codes "what is declared to hold below a face, above it";
       facts = Holds (AddFace G p) (eq0 r) ∷ declared;
       condition = Holds G (eq0 r);
+    }
+    ∷ record {
+      name = codes "a face under an abstract substitution, in another context";
+      facts = IsFace G (Under p d) ∷ declared;
+      condition = IsFace (AddName G) (Under p d);
     }
     ∷ []

@@ -1,13 +1,13 @@
 -- Whether normal terms with unknown parts are formulas and faces over the names of a context, where
 -- some parts are declared to be.
 use Rattle.std.specs.Prelude.{ℕ, zero, List, [], ◌∷◌, drop, length, nat_le, ◌==◌}
-use Rattle.std.specs.Prelude.{Bool, true, false, ◌&&◌, cond, slice_get, unwrap_or}
+use Rattle.std.specs.Prelude.{Bool, true, false, ◌&&◌, ◌||◌, cond, slice_get, unwrap_or}
 use Rattle.std.specs.Prelude.{Option, Some, None}
 use Rattle.trees.specs.declared.op.Op.TheVariants as op
 use Rattle.trees.specs.Language.{IsFormula, IsFace}
 use Rattle.patterns.specs.Patterns.{ContextPart, Empty, AddVar, AddName, AddFace}
 use Rattle.patterns.specs.Normals.{Normal, NormalSubst, NormalContext, NVar, NMake, NPart}
-use Rattle.patterns.specs.Normals.{NoNormals, MoreNormals, NShift, NPush, NRest}
+use Rattle.patterns.specs.Normals.{NoNormals, MoreNormals, NShift, NPush, NRest, same_normal}
 use Rattle.patterns.specs.Tests.{NormalCondition, same_normal_context}
 
 -- of each index that a context adds to its base, the innermost first, whether it is that of a name
@@ -39,6 +39,16 @@ abbrev pub face_names : NormalContext → ℕ → NormalCondition → Option (Li
 face_names base k (IsFace G (NPart l (NShift zero))) = cond (k == l) (names_over base G) None
 face_names base k _ = None
 
+-- the same where it says so of this very tree
+
+abbrev pub formula_told : NormalContext → Normal → NormalCondition → Option (List Bool)
+formula_told base t (IsFormula G u) = cond (same_normal t u) (names_over base G) None
+formula_told base t _ = None
+
+abbrev pub face_told : NormalContext → Normal → NormalCondition → Option (List Bool)
+face_told base t (IsFace G u) = cond (same_normal t u) (names_over base G) None
+face_told base t _ = None
+
 abbrev pub first_told : Option (List Bool) → Option (List Bool) → Option (List Bool)
 first_told (Some ms) rest = Some ms
 first_told None rest = rest
@@ -60,6 +70,11 @@ are_names_in _ _ = false
 abbrev pub shifts_names : List Bool → ℕ → List Bool → Bool
 shifts_names ms n names = nat_le n (length names) && are_names_in ms (drop n names)
 
+-- it is told over names that are names here
+abbrev pub is_told : Option (List Bool) → List Bool → Bool
+is_told None names = false
+is_told (Some ms) names = shifts_names ms 0 names
+
 module _ (facts : List NormalCondition) (base : NormalContext) (names : List Bool) where
   abbrev mutual
     -- a formula over these names
@@ -72,7 +87,9 @@ module _ (facts : List NormalCondition) (base : NormalContext) (names : List Boo
         is_formula_in r && is_formula_in s
     is_formula_in (NMake op.Max (MoreNormals r (MoreNormals s NoNormals))) =
         is_formula_in r && is_formula_in s
-    is_formula_in (NPart k s) = takes (found_names (formula_names base k) facts) s
+    is_formula_in (NPart k s) =
+        takes (found_names (formula_names base k) facts) s
+        || is_told (found_names (formula_told base (NPart k s)) facts) names
     is_formula_in _ = false
 
     -- the substitution takes each name of these to a formula, and the base to itself
@@ -100,4 +117,5 @@ is_face_in facts base names (NMake op.All (MoreNormals p NoNormals)) =
     is_face_in facts base (true ∷ names) p
 is_face_in facts base names (NPart k s) =
     takes facts base names (found_names (face_names base k) facts) s
+    || is_told (found_names (face_told base (NPart k s)) facts) names
 is_face_in facts base names _ = false
