@@ -1,11 +1,11 @@
 -- A call runs a recipe that is right, and gives what it states.
-use Rattle.std.proofs.Common.{◌≡◌, ℕ, zero, suc, ◌<◌, List, [], ◌∷◌, length, take, drop, refl, sym, ◌∙◌, ap, ap₂, subst, arith, Some}
+use Rattle.std.proofs.Common.{◌≡◌, ℕ, zero, suc, ◌<◌, List, [], ◌∷◌, length, take, drop, sym, ◌∙◌, ap, ap₂, subst, arith, Some}
 use Rattle.std.specs.Prelude.{slice_get, slice_index}
 use Rattle.trees.specs.Judgements.{Judgement}
 use Rattle.trees.specs.Things.{Thing, meanings}
 use Rattle.trees.proofs.Meanings.{meanings-length}
 use Rattle.book.specs.Contents.{Contents}
-use Rattle.book.specs.Shown.{book_means, book_concludes}
+use Rattle.book.specs.Shown.{book_concludes}
 use Rattle.recipes.specs.declared.row.Row.{Row}
 use Rattle.recipes.specs.Made.{node_at}
 use Rattle.recipes.specs.Statements.{Statement}
@@ -13,26 +13,15 @@ use Rattle.recipes.specs.Derivations.{RunsTo, Derives, MayStandAt, premises_at, 
 use Rattle.recipe_runner.specs.Running.{MayDerive, MayRun}
 use Rattle.kan_calls.specs.Calls.{MayCall}
 
--- where there is one earlier recipe
-
-only-one : (s t : Statement) (k : ℕ) → slice_get (s ∷ []) k ≡ Some t → s ≡ t
-only-one s t zero e = let same : s ≡ t = cc in same
-only-one s t (suc k) e = absurd (cc e)
-
--- what a derivation of it asks for
+-- what a derivation by an earlier recipe asks for, of its statement
 record Stands (s : Statement) (b : Contents) (premises : List ℕ) (things : List Thing) (gives : List Judgement) : Type 0 where
   premises_are : meanings (book_concludes b) premises ≡ Some (premises_at s things)
   may_stand : MayStandAt s things
   given : gives ≡ conclusions_at s things
 
-stands : (s : Statement) (b : Contents) (k : ℕ) (parts premises : List ℕ) (gives : List Judgement) → (h : MayDerive (s ∷ []) b k parts premises gives) → Stands s b premises h.things gives
-stands s b k parts premises gives h =
-    subst (λ t. Stands t b premises h.things gives) (sym (only-one s h.statement k h.is))
-    (record { premises_are = h.premises_are; may_stand = h.may_stand; given = h.given })
-
-pub may-run-one : (earlier : List Statement) (s : Statement) (b : Contents) (rows : List Row) (outs parts premises : List ℕ) (k : ℕ) (gives : List Judgement) → Derives earlier s rows outs → MayDerive (s ∷ []) b k parts premises gives → MayRun earlier b rows outs parts premises gives
-may-run-one earlier s b rows outs parts premises k gives d h =
-    let t = stands s b k parts premises gives h in
+may-run-same : (ss earlier : List Statement) (s : Statement) (b : Contents) (rows : List Row) (outs parts premises : List ℕ) (k : ℕ) (gives : List Judgement) → Derives earlier s rows outs → (h : MayDerive ss b k parts premises gives) → s ≡ h.statement → MayRun earlier b rows outs parts premises gives
+may-run-same ss earlier s b rows outs parts premises k gives d h same =
+    let t = subst (λ u. Stands u b premises h.things gives) (sym same) (record { premises_are = h.premises_are; may_stand = h.may_stand; given = h.given }) in
     record {
       things = h.things;
       judgements = premises_at s h.things;
@@ -40,6 +29,24 @@ may-run-one earlier s b rows outs parts premises k gives d h =
       premises_are = t.premises_are;
       runs = subst (λ z. RunsTo earlier h.things (premises_at s h.things) rows outs z) (sym t.given) (d.derives h.things t.may_stand);
     }
+
+pub at-number : (ss : List Statement) (s t : Statement) (k : ℕ) → slice_get ss k ≡ Some s → slice_get ss k ≡ Some t → s ≡ t
+at-number ss s t k e f = let p : Some s ≡ Some t = sym e ∙ f in cc
+
+-- the recipe of that number
+pub may-run-at : (ss earlier : List Statement) (s : Statement) (b : Contents) (rows : List Row) (outs parts premises : List ℕ) (k : ℕ) (gives : List Judgement) → slice_get ss k ≡ Some s → Derives earlier s rows outs → MayDerive ss b k parts premises gives → MayRun earlier b rows outs parts premises gives
+may-run-at ss earlier s b rows outs parts premises k gives at d h =
+    may-run-same ss earlier s b rows outs parts premises k gives d h (at-number ss s h.statement k at h.is)
+
+-- where there is one earlier recipe
+
+only-one : (s t : Statement) (k : ℕ) → slice_get (s ∷ []) k ≡ Some t → s ≡ t
+only-one s t zero e = let same : s ≡ t = cc in same
+only-one s t (suc k) e = absurd (cc e)
+
+pub may-run-one : (earlier : List Statement) (s : Statement) (b : Contents) (rows : List Row) (outs parts premises : List ℕ) (k : ℕ) (gives : List Judgement) → Derives earlier s rows outs → MayDerive (s ∷ []) b k parts premises gives → MayRun earlier b rows outs parts premises gives
+may-run-one earlier s b rows outs parts premises k gives d h =
+    may-run-same (s ∷ []) earlier s b rows outs parts premises k gives d h (only-one s h.statement k h.is)
 
 pub count-one : (s t : Statement) (k n : ℕ) (f : Statement → ℕ) → f s ≡ n → slice_get (s ∷ []) k ≡ Some t → n ≡ f t
 count-one s t k n f e at = sym e ∙ ap f (only-one s t k at)

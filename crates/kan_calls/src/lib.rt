@@ -10,6 +10,8 @@
 
 mod calls;
 mod earlier;
+mod kan;
 
 pub use calls::{Derive, Derived, ROWS, contr, equiv, fill, pres};
 pub use earlier::{Contraction, Filling};
+pub use kan::Kan;

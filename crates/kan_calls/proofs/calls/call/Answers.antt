@@ -1,4 +1,4 @@
-use Rattle.std.proofs.Common.{◌≡◌, ◌<◌, ◌≤◌, ◌++◌, [], ◌∷◌, ◌∙◌, length, sym, ap, subst, arith}
+use Rattle.std.proofs.Common.{◌++◌, ◌∷◌, ◌∙◌, length, ap, arith}
 use Rattle.trees.specs.Things.{meanings}
 use Rattle.trees.proofs.Meanings.{meanings-length}
 use Rattle.book.specs.Shown.{book_concludes}

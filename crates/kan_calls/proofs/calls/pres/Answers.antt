@@ -1,4 +1,4 @@
-use Rattle.std.proofs.Common.{◌≡◌, ℕ, suc, [], ◌∷◌, length, refl, ◌∙◌, arith}
+use Rattle.std.proofs.Common.{◌≡◌, suc, [], ◌∷◌, length, refl, arith}
 use Rattle.recipes.specs.Derivations.{conclusions_at}
 use Rattle.recipe_runner.specs.Running.{most_made_by}
 use Rattle.kan_fill.specs.Statements.{fill_statement, pres_statement}
