@@ -1,0 +1,122 @@
+-- What is tried of filling, contraction and preservation: what is given of each, with nothing wanted.
+use Rattle.std.specs.Prelude.{List, [], ◌∷◌, ◌++◌}
+use Rattle.trees.specs.declared.op.Op.TheVariants as op
+use Rattle.trees.specs.declared.kind.PartKind.{PartKind}
+use Rattle.trees.specs.Language.{Language, JudgementOf, Tm, TmEq}
+use Rattle.patterns.specs.Patterns.{patterns}
+use Rattle.rules.specs.Table.{at, weakened, i0, i1, neg, min, f0, eq0, eq1, join, all, universe}
+use Rattle.rules.specs.Table.{pi, lam, pathp, plam, nat, zero, is_contr, fill}
+use Rattle.kan_fill.specs.Statements.{contraction, preservation, fill_statement, contr_statement}
+use Rattle.kan_fill.specs.Statements.{pres_statement, equiv_statement}
+use Rattle.recipes.specs.Statements.{Claimed, Stated, Statement, stated}
+
+module _ (L : Language) where
+  abbrev f1 : L.tree
+  f1 = L.make op.F1 []
+
+  abbrev meet : L.tree → L.tree → L.tree
+  meet p q = L.make op.Meet (p ∷ q ∷ [])
+
+  abbrev max : L.tree → L.tree → L.tree
+  max r s = L.make op.Max (r ∷ s ∷ [])
+
+  -- the type of a filling of a by itself, and what it is where p is; A and a are weakened for a line
+  abbrev filled : L.context → L.tree → L.tree → L.tree → L.tree → List (JudgementOf L)
+  filled G A p a r =
+      let whole = fill L (weakened L A) p (weakened L a) a r in
+      Tm G whole A ∷ TmEq (L.with_face G p) whole a A ∷ []
+
+  -- two names, j the last
+  abbrev names : L.context
+  names = L.with_name (L.with_name L.nil)
+
+  abbrev k : L.tree
+  k = L.var 1
+
+  abbrev j : L.tree
+  j = L.var 0
+
+  abbrev numbers : L.tree → L.tree → List (JudgementOf L)
+  numbers p r = filled names (nat L) p (zero L) r
+
+  -- of numbers, on many faces
+  abbrev faces : Claimed L
+  faces = record {
+    wants = [];
+    sides = [];
+    gives =
+        numbers (f0 L) (i0 L)
+        ++ (numbers f1 (i1 L)
+        ++ (numbers (eq0 L j) j
+        ++ (numbers (join L (eq0 L j) (eq1 L k)) (min L j (neg L k))
+        ++ (numbers (meet (eq0 L j) (eq1 L k)) (max j k)
+        ++ numbers (all L (join L (eq0 L (L.var 0)) (eq1 L (L.var 1)))) (neg L j)))));
+  }
+
+  -- a name, a type and an element of it
+  abbrev element : L.context
+  element = L.with_var (L.with_var (L.with_name L.nil) (universe L)) (L.var 0)
+
+  abbrev connection : L.tree
+  connection = min L (L.var 2) (neg L (L.var 2))
+
+  abbrev on_end : L.tree → L.tree → List (JudgementOf L)
+  on_end A a = filled element A (eq0 L (L.var 2)) a connection
+
+  -- over a variable, functions and paths
+  abbrev lines : Claimed L
+  lines = record {
+    wants = [];
+    sides = [];
+    gives =
+        on_end (L.var 1) (L.var 0)
+        ++ (on_end (pi L (nat L) (nat L)) (lam L (nat L) (L.var 0))
+        ++ on_end (pathp L (nat L) (zero L) (zero L)) (plam L (zero L)));
+  }
+
+  -- The element of a type X that is a variable: of a context with X, that X is contractible, and an
+  -- element of X.
+
+  abbrev contractible : L.context
+  contractible =
+      let type_of = L.with_var (L.with_name L.nil) (universe L) in
+      L.with_var (L.with_var type_of (is_contr L (L.var 0))) (L.var 1)
+
+  abbrev extended : Claimed L
+  extended = record {
+    wants = [];
+    sides = [];
+    gives =
+        (contraction L contractible (L.var 2) (L.var 1) (eq0 L (L.var 3)) (L.var 0)).gives;
+  }
+
+  -- numbers, carried along the identity
+  abbrev carried : Claimed L
+  carried =
+      let same = lam L (nat L) (L.var 0) in
+      let end = eq0 L (L.var 0) in
+      record {
+        wants = [];
+        sides = [];
+        gives =
+            (preservation L (L.with_name L.nil) (nat L) (nat L) same end (zero L) (zero L)).gives;
+      }
+
+abbrev none : List PartKind
+none = []
+
+abbrev pub faces_statement : Statement
+faces_statement = stated none (faces patterns)
+
+abbrev pub lines_statement : Statement
+lines_statement = stated none (lines patterns)
+
+abbrev pub extended_statement : Statement
+extended_statement = stated none (extended patterns)
+
+abbrev pub carried_statement : Statement
+carried_statement = stated none (carried patterns)
+
+-- the earlier recipes that these name
+abbrev pub earlier : List Statement
+earlier = fill_statement ∷ contr_statement ∷ pres_statement ∷ equiv_statement ∷ []

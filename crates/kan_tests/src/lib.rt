@@ -1,0 +1,41 @@
+//! Derivations that use the recipes of the Kan operations, run over a book, and what the judge says
+//! of them.
+#![tactic(auto)]
+
+ghost use Rattle.recipes.specs.Derivations.{Derives};
+ghost use Rattle.kan_tests.specs.Fillings.{faces_statement, lines_statement, extended_statement};
+ghost use Rattle.kan_tests.specs.Fillings.{carried_statement, earlier};
+
+/// The rows of a table, each on a line of its own however long.
+macro_rules! table {
+    ($($row:expr,)*) => { &[$($row),*] };
+}
+
+mod contr_variable;
+mod fill_faces;
+mod fill_lines;
+mod pres_numbers;
+
+pub use contr_variable::{CONTR_VARIABLE, CONTR_VARIABLE_GIVES};
+pub use fill_faces::{FILL_FACES, FILL_FACES_GIVES};
+pub use fill_lines::{FILL_LINES, FILL_LINES_GIVES};
+pub use pres_numbers::{PRES_NUMBERS, PRES_NUMBERS_GIVES};
+
+#[cfg(test)]
+mod tests;
+
+/// Fillings on many faces, and over lines of some types.
+pub fn fillings_are_derived()
+    ensures faces { Derives earlier faces_statement FILL_FACES.now FILL_FACES_GIVES.now }
+    ensures lines { Derives earlier lines_statement FILL_LINES.now FILL_LINES_GIVES.now }
+{}
+
+/// An element of a contractible type, extended from a face.
+pub fn contraction_is_derived()
+    ensures { Derives earlier extended_statement CONTR_VARIABLE.now CONTR_VARIABLE_GIVES.now }
+{}
+
+/// Numbers, carried along the identity.
+pub fn preservation_is_derived()
+    ensures { Derives earlier carried_statement PRES_NUMBERS.now PRES_NUMBERS_GIVES.now }
+{}

@@ -1,0 +1,79 @@
+//! Uses of the derived rules as derivation files.
+
+ghost use Rattle.std.specs.Prelude.{◌≡◌, ◌≤◌, [], List, IfOk, length, map};
+ghost use Rattle.trees.specs.Judgements.{Judgement};
+ghost use Rattle.book.specs.Contents.{Contents};
+ghost use Rattle.kan_tests.specs.Fillings.{earlier};
+ghost use Rattle.recipe_runner.specs.Running.{MayRun, most_made_by};
+
+use crate::{
+    CONTR_VARIABLE, CONTR_VARIABLE_GIVES, FILL_FACES, FILL_FACES_GIVES, FILL_LINES,
+    FILL_LINES_GIVES, PRES_NUMBERS, PRES_NUMBERS_GIVES, contraction_is_derived,
+    fillings_are_derived, preservation_is_derived,
+};
+use book::{Book, NodeId};
+use book_writer::write;
+use kan_calls::Kan;
+use recipe_runner::run;
+use recipes::Row;
+use replay::{Verdict, judge};
+use std::alloc::{AllocError, Global};
+use std::test::Fail;
+
+/// These numbers as nodes.
+fn nodes_of(alloc: Global, numbers: &[u64]) -> Result<Vec<NodeId>, AllocError>
+    ensures { IfOk result (λ nodes. map (λ node. node.0) nodes.items ≡ numbers.now) }
+{
+    let mut nodes = Vec::new(alloc);
+    for number in numbers {
+        nodes.push(NodeId(*number))?;
+    }
+    Ok(nodes)
+}
+
+/// The verdict on the file of what a recipe without parts gives.
+fn verdict(alloc: Global, rows: &[Row], outs: &[u16]) -> Result<Verdict, AllocError>
+    requires rows { most_made_by rows.now ≤ 512 }
+    requires outs { length outs.now ≤ 16 }
+    requires right { (gives : List Judgement) × ((b : Contents) →
+        MayRun earlier b rows.now outs.now [] [] gives) }
+{
+    let mut book = Book::new(alloc)?;
+    let numbers = run(&mut book, &Kan, rows, outs, &[], &[])?;
+    let roots = nodes_of(alloc, numbers.as_slice())?;
+    let mut bytes = Vec::new(alloc);
+    write(&book, alloc, &roots, &mut bytes)?;
+    Ok(judge(alloc, bytes.as_slice())?.verdict)
+}
+
+#[test]
+fn fillings_are_right_on_many_faces(rt: HostRuntime) -> Result<(), Fail> {
+    fillings_are_derived();
+    let found = verdict(rt.alloc(), FILL_FACES, FILL_FACES_GIVES)?;
+    assert!(rt; matches!(found, Verdict::Yes { roots: 12, .. }));
+    Ok(())
+}
+
+#[test]
+fn fillings_are_right_over_many_lines(rt: HostRuntime) -> Result<(), Fail> {
+    fillings_are_derived();
+    let found = verdict(rt.alloc(), FILL_LINES, FILL_LINES_GIVES)?;
+    assert!(rt; matches!(found, Verdict::Yes { roots: 6, .. }));
+    Ok(())
+}
+
+#[test]
+fn a_contraction_is_right(rt: HostRuntime) -> Result<(), Fail> {
+    contraction_is_derived();
+    let found = verdict(rt.alloc(), CONTR_VARIABLE, CONTR_VARIABLE_GIVES)?;
+    assert!(rt; matches!(found, Verdict::Yes { roots: 2, .. }));
+    Ok(())
+}
+
+#[test]
+fn a_preservation_is_right(rt: HostRuntime) -> Result<(), Fail> {
+    preservation_is_derived();
+    let found = verdict(rt.alloc(), PRES_NUMBERS, PRES_NUMBERS_GIVES)?;
+    assert!(rt; matches!(found, Verdict::Yes { roots: 4, .. }));
+    Ok(())
+}
