@@ -1,3 +1,4 @@
 pub mod NumberLaws
 pub mod BuildLaws
 pub mod RunLaws
+pub mod FlatLaws

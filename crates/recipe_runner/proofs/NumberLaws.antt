@@ -10,7 +10,7 @@ use Rattle.trees.proofs.Meanings.{meanings-cons}
 use Rattle.book.specs.Contents.{Contents}
 use Rattle.book.specs.Shown.{book_means, book_concludes, Extends}
 use Rattle.recipes.specs.Made.{Made, AThing, ANode, thing_at, node_at}
-use Rattle.recipe_runner.specs.Running.{IsNumberOf, AreNumbersOf, numbers_at}
+use Rattle.recipe_runner.specs.Running.{AreNumbersOf, numbers_at}
 
 -- a number of what an earlier row made
 pub record IsThere {X : Type 0} (means : ℕ → Option X) (made : List ℕ) (n : ℕ) (x : X) : Type 0 where

@@ -17,7 +17,7 @@ use Rattle.recipes.specs.declared.row.Row.{Row}
 use Rattle.recipes.specs.declared.row.Row.TheVariants as row
 use Rattle.recipes.specs.Made.{Made, AThing, ANode, node_at, built_by}
 use Rattle.recipes.specs.Statements.{Statement}
-use Rattle.recipes.specs.Derivations.{ThenTakes, Makes, Runs, Derives, MayStandAt, premises_at, conclusions_at}
+use Rattle.recipes.specs.Derivations.{ThenTakes, Makes, Derives, MayStandAt, premises_at, conclusions_at}
 use Rattle.recipe_runner.specs.Running.{IsNumberOf, AreNumbersOf, Builds, Infers, Supplies, MakesOne, MakesAll, GoesOn, MayRun, most_added, most_made}
 use Rattle.recipe_runner.proofs.NumberLaws.{AreThere, nodes-there, numbers-later, numbers-join}
 

@@ -103,6 +103,10 @@ pub record MayRun (earlier : List Statement) (b : Contents) (rows : List Row)
   pub premises_are : meanings (book_concludes b) premises ≡ Some judgements
   pub runs : RunsTo earlier things judgements rows outs gives
 
+-- what wants nothing and gives nothing
+abbrev pub nothing : Statement
+nothing = record { kinds = []; wants = []; sides = []; gives = [] }
+
 -- The most rows and nodes that a row adds to a book, where earlier recipes add so many at most.
 
 abbrev pub most_added : (ℕ → ℕ) → Row → ℕ

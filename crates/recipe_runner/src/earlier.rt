@@ -1,12 +1,12 @@
 //! The earlier recipes that rows name.
 
-ghost use Rattle.std.specs.Prelude.{◌≡◌, ◌≤◌, ◌+◌, ℕ, List, [], Some, IfOk, IsOk, length};
+ghost use Rattle.std.specs.Prelude.{◌≡◌, ◌≤◌, ◌+◌, ℕ, List, [], ◌∷◌, Some, IfOk, IsOk, length};
 ghost use Rattle.std.specs.Prelude.{slice_get};
 ghost use Rattle.trees.specs.Judgements.{Judgement};
 ghost use Rattle.trees.specs.Things.{meanings};
 ghost use Rattle.book.specs.Shown.{book_concludes, Extends};
 ghost use Rattle.recipes.specs.Statements.{Statement};
-ghost use Rattle.recipe_runner.specs.Running.{MayDerive};
+ghost use Rattle.recipe_runner.specs.Running.{MayDerive, nothing};
 
 use book::{Book, Few};
 use std::alloc::AllocError;
@@ -51,11 +51,11 @@ pub trait Earlier {
             meanings (book_concludes book.new) nodes ≡ Some gives) };
 }
 
-/// No earlier recipes.
+/// No earlier recipe but the one that wants and gives nothing, for recipes that name none.
 pub struct NoRecipes;
 
 impl Earlier for NoRecipes {
-    ghost states = { λ s. [] };
+    ghost states = { λ s. nothing ∷ [] };
 
     ghost most = { λ s k. 0 };
 

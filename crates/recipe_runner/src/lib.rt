@@ -7,7 +7,7 @@
 //! ```
 #![tactic(auto)]
 
-ghost use Rattle.std.specs.Prelude.{◌≡◌, ℕ, List, Some};
+ghost use Rattle.std.specs.Prelude.{◌≡◌, ℕ, List, [], Some};
 ghost use Rattle.trees.specs.Things.{Thing, meanings};
 ghost use Rattle.book.specs.Contents.{Contents};
 ghost use Rattle.book.specs.Shown.{book_means, book_concludes};
@@ -32,4 +32,10 @@ pub fn derived_recipes_may_run()
         meanings (book_means b) parts ≡ Some things → MayStandAt s things →
         meanings (book_concludes b) premises ≡ Some (premises_at s things) →
         MayRun earlier b rows outs parts premises (conclusions_at s things) }
+{}
+
+/// A table that names no earlier recipe derives its statement whatever the earlier recipes are.
+pub fn derived_without_earlier_recipes()
+    ensures { (earlier : List Statement) (s : Statement) (rows : List Row) (outs : List ℕ) →
+        Derives [] s rows outs → Derives earlier s rows outs }
 {}

@@ -1,6 +1,7 @@
-use Rattle.std.proofs.Common.{◌≡◌, suc, [], length, refl, arith}
+use Rattle.std.proofs.Common.{◌≡◌, suc, [], ◌∷◌, length, refl, arith}
 use Rattle.recipes.specs.Derivations.{conclusions_at}
-use Rattle.recipe_runner.specs.Running.{most_made_by}
+use Rattle.recipe_runner.specs.Running.{most_made_by, nothing}
+use Rattle.recipe_runner.proofs.FlatLaws.{flat-derives}
 use Rattle.kan_fill.specs.Statements.{contr_statement}
 use Rattle.kan_fill.specs.declared.contr.TheConstants.{CONTR, CONTR_GIVES}
 use Rattle.kan_calls.proofs.CallLaws.{may-run-call, call-premises}
@@ -18,9 +19,9 @@ call-requires-clause-few c =
 pub call-requires-clause-right : goal.call-requires-clause-right
 call-requires-clause-right c =
     let a = c.args in
-    (conclusions_at contr_statement c.requires.0, may-run-call [] contr_statement a.book.now CONTR.now CONTR_GIVES.now a.ctx.0 a.step.now.parts a.step.now.premises c.requires.0 c.contraction_is_derived.ensures c.requires.1)
+    (conclusions_at contr_statement c.requires.0, may-run-call (nothing ∷ []) contr_statement a.book.now CONTR.now CONTR_GIVES.now a.ctx.0 a.step.now.parts a.step.now.premises c.requires.0 (flat-derives (nothing ∷ []) contr_statement CONTR.now CONTR_GIVES.now c.contraction_is_derived.ensures) c.requires.1)
 
 pub returns-clause-gives : goal.returns-clause-gives
 returns-clause-gives c = λ things h.
     let a = c.args in
-    c.in_ok-call.ensures.gives (conclusions_at contr_statement things) (may-run-call [] contr_statement a.book.now CONTR.now CONTR_GIVES.now a.ctx.0 a.step.now.parts a.step.now.premises things c.contraction_is_derived.ensures h)
+    c.in_ok-call.ensures.gives (conclusions_at contr_statement things) (may-run-call (nothing ∷ []) contr_statement a.book.now CONTR.now CONTR_GIVES.now a.ctx.0 a.step.now.parts a.step.now.premises things (flat-derives (nothing ∷ []) contr_statement CONTR.now CONTR_GIVES.now c.contraction_is_derived.ensures) h)

@@ -1,4 +1,4 @@
-use Rattle.std.proofs.Common.{◌<◌, ◌∙◌, sym, ap, subst, length, take}
+use Rattle.std.proofs.Common.{◌<◌, ◌∙◌, ap, length, take}
 use Rattle.std.proofs.lemmas.List.Elements.{All-same}
 use Rattle.recipe_runner.specs.Running.{numbers_at}
 use Rattle.recipe_runner.proofs.BuildLaws.{earlier-there, cut-as, derive-along}

@@ -1,4 +1,4 @@
-use Rattle.std.proofs.Common.{◌≤◌, ◌∙◌, [], ◌∷◌, refl, sym, ap, subst, length, arith}
+use Rattle.std.proofs.Common.{[], ◌∷◌, refl, sym, ap, subst, length, arith}
 use Rattle.recipe_runner.specs.Running.{AreNumbersOf}
 use Rattle.recipe_runner.proofs.NumberLaws.{node-numbers}
 use Rattle.recipe_runner.proofs.RunLaws.{makes-one, makes-nodes, all-as, most-same, one-made}

@@ -1,4 +1,4 @@
-use Rattle.std.proofs.Common.{◌≡◌, ◌+◌, ◌≤◌, List, [], take, drop, length}
+use Rattle.std.proofs.Common.{◌+◌, ◌≤◌, List, [], take, drop, length}
 use Rattle.book.specs.Shown.{Extends}
 use Rattle.recipes.specs.Made.{Made}
 use Rattle.recipe_runner.specs.Running.{GoesOn, most_added_by, most_made_by}

@@ -1,5 +1,6 @@
-use Rattle.std.proofs.Common.{◌≡◌, [], refl, arith}
-use Rattle.recipe_runner.specs.Running.{most_made_by}
+use Rattle.std.proofs.Common.{◌≡◌, [], ◌∷◌, refl, arith}
+use Rattle.recipe_runner.specs.Running.{most_made_by, nothing}
+use Rattle.recipe_runner.proofs.FlatLaws.{flat-derives}
 use Rattle.kan_fill.specs.Statements.{fill_statement}
 use Rattle.kan_fill.specs.declared.fill.TheConstants.{FILL, FILL_GIVES}
 use Rattle.kan_calls.proofs.CallLaws.{may-run-one}
@@ -11,9 +12,9 @@ run-requires-clause-rows c = let e : most_made_by FILL.now ≡ 273 = refl in ome
 pub run-requires-clause-right : goal.run-requires-clause-right
 run-requires-clause-right c =
     let a = c.args in
-    (c.requires.0, may-run-one [] fill_statement a.book.now FILL.now FILL_GIVES.now a.parts.now a.premises.now a._recipe c.requires.0 c.filling_is_derived.ensures c.requires.1)
+    (c.requires.0, may-run-one (nothing ∷ []) fill_statement a.book.now FILL.now FILL_GIVES.now a.parts.now a.premises.now a._recipe c.requires.0 (flat-derives (nothing ∷ []) fill_statement FILL.now FILL_GIVES.now c.filling_is_derived.ensures) c.requires.1)
 
 pub returns-clause-concludes : goal.returns-clause-concludes
 returns-clause-concludes c = λ gives h.
     let a = c.args in
-    c.in_ok-run.ensures.concludes gives (may-run-one [] fill_statement a.book.now FILL.now FILL_GIVES.now a.parts.now a.premises.now a._recipe gives c.filling_is_derived.ensures h)
+    c.in_ok-run.ensures.concludes gives (may-run-one (nothing ∷ []) fill_statement a.book.now FILL.now FILL_GIVES.now a.parts.now a.premises.now a._recipe gives (flat-derives (nothing ∷ []) fill_statement FILL.now FILL_GIVES.now c.filling_is_derived.ensures) h)

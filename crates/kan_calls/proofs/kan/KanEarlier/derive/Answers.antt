@@ -2,6 +2,8 @@ use Rattle.std.proofs.Common.{◌≡◌, ◌≤◌, List, [], ◌∷◌, false, 
 use Rattle.std.specs.Prelude.{slice_get, slice_index}
 use Rattle.std.proofs.lemmas.Option.{slice_get_within}
 use Rattle.recipes.specs.Statements.{Statement}
+use Rattle.recipe_runner.specs.Running.{nothing}
+use Rattle.recipe_runner.proofs.FlatLaws.{flat-derives}
 use Rattle.kan_fill.specs.Statements.{fill_statement, contr_statement, pres_statement, equiv_statement}
 use Rattle.kan_fill.specs.declared.fill.TheConstants.{FILL, FILL_GIVES}
 use Rattle.kan_fill.specs.declared.contr.TheConstants.{CONTR, CONTR_GIVES}
@@ -18,24 +20,24 @@ run-requires-clause-right c =
     let a = c.args in
     let gives = c.requires.0 in
     let h = c.requires.1 in
-    (gives, may-run-at four [] fill_statement a.book.now FILL.now FILL_GIVES.now a.parts.now a.premises.now a.recipe gives (ap (slice_get four) c.in-0.is) c.filling_is_derived.ensures h)
+    (gives, may-run-at four (nothing ∷ []) fill_statement a.book.now FILL.now FILL_GIVES.now a.parts.now a.premises.now a.recipe gives (ap (slice_get four) c.in-0.is) (flat-derives (nothing ∷ []) fill_statement FILL.now FILL_GIVES.now c.filling_is_derived.ensures) h)
 
 pub returns-in_ok-run-in-0-clause-concludes : goal.returns-in_ok-run-in-0-clause-concludes
 returns-in_ok-run-in-0-clause-concludes c = λ gives h.
     let a = c.args in
-    c.in_ok-run-in-0.ensures.concludes gives (may-run-at four [] fill_statement a.book.now FILL.now FILL_GIVES.now a.parts.now a.premises.now a.recipe gives (ap (slice_get four) c.in-0.is) c.filling_is_derived.ensures h)
+    c.in_ok-run-in-0.ensures.concludes gives (may-run-at four (nothing ∷ []) fill_statement a.book.now FILL.now FILL_GIVES.now a.parts.now a.premises.now a.recipe gives (ap (slice_get four) c.in-0.is) (flat-derives (nothing ∷ []) fill_statement FILL.now FILL_GIVES.now c.filling_is_derived.ensures) h)
 
 pub run-requires-in-1-clause-right : goal.run-requires-in-1-clause-right
 run-requires-in-1-clause-right c =
     let a = c.args in
     let gives = c.requires.0 in
     let h = c.requires.1 in
-    (gives, may-run-at four [] contr_statement a.book.now CONTR.now CONTR_GIVES.now a.parts.now a.premises.now a.recipe gives (ap (slice_get four) c.in-1.is) c.contraction_is_derived.ensures h)
+    (gives, may-run-at four (nothing ∷ []) contr_statement a.book.now CONTR.now CONTR_GIVES.now a.parts.now a.premises.now a.recipe gives (ap (slice_get four) c.in-1.is) (flat-derives (nothing ∷ []) contr_statement CONTR.now CONTR_GIVES.now c.contraction_is_derived.ensures) h)
 
 pub returns-in_ok-run-in-1-clause-concludes : goal.returns-in_ok-run-in-1-clause-concludes
 returns-in_ok-run-in-1-clause-concludes c = λ gives h.
     let a = c.args in
-    c.in_ok-run-in-1.ensures.concludes gives (may-run-at four [] contr_statement a.book.now CONTR.now CONTR_GIVES.now a.parts.now a.premises.now a.recipe gives (ap (slice_get four) c.in-1.is) c.contraction_is_derived.ensures h)
+    c.in_ok-run-in-1.ensures.concludes gives (may-run-at four (nothing ∷ []) contr_statement a.book.now CONTR.now CONTR_GIVES.now a.parts.now a.premises.now a.recipe gives (ap (slice_get four) c.in-1.is) (flat-derives (nothing ∷ []) contr_statement CONTR.now CONTR_GIVES.now c.contraction_is_derived.ensures) h)
 
 pub run-requires-in-2-clause-right : goal.run-requires-in-2-clause-right
 run-requires-in-2-clause-right c =

@@ -1,4 +1,4 @@
-use Rattle.std.proofs.Common.{◌≡◌, ◌<◌, ◌+◌, ◌++◌, ◌∙◌, length, take, ap, arith, length-append}
+use Rattle.std.proofs.Common.{◌∙◌, length, take, ap, arith, length-append}
 use Rattle.std.proofs.lemmas.List.{length-take-le}
 use Rattle.recipe_runner.proofs.numbers.Numbers.append.Goals as goal
 
