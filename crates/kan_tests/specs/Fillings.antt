@@ -4,11 +4,11 @@ use Rattle.trees.specs.declared.op.Op.TheVariants as op
 use Rattle.trees.specs.declared.kind.PartKind.{PartKind}
 use Rattle.trees.specs.Language.{Language, JudgementOf, Tm, TmEq}
 use Rattle.patterns.specs.Patterns.{patterns}
-use Rattle.rules.specs.Table.{at, weakened, i0, i1, neg, min, f0, eq0, eq1, join, all, universe}
+use Rattle.rules.specs.Table.{weakened, i0, i1, neg, min, f0, eq0, eq1, join, all, universe}
 use Rattle.rules.specs.Table.{pi, lam, pathp, plam, nat, zero, is_contr, fill}
 use Rattle.kan_fill.specs.Statements.{contraction, preservation, fill_statement, contr_statement}
 use Rattle.kan_fill.specs.Statements.{pres_statement, equiv_statement}
-use Rattle.recipes.specs.Statements.{Claimed, Stated, Statement, stated}
+use Rattle.recipes.specs.Statements.{Claimed, Statement, stated}
 
 module _ (L : Language) where
   abbrev f1 : L.tree

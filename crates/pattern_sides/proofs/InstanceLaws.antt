@@ -1,5 +1,5 @@
 -- Where `all i.q` is true, q is true at every formula.
-use Rattle.std.proofs.Common.{◌≡◌, ⊎_elim, inl, inr, ◌⊎◌, ℕ, zero, suc, List, [], ◌∷◌, Bool, true, false, ◌&&◌, ◌||◌, refl, sym, ◌∙◌, ap, ap₂, add-zero, subst}
+use Rattle.std.proofs.Common.{◌≡◌, ⊎_elim, inl, inr, ◌⊎◌, ℕ, zero, suc, List, [], ◌∷◌, Bool, true, false, ◌&&◌, ◌||◌, refl, sym, ◌∙◌, ap, add-zero, subst}
 use Rattle.trees.specs.declared.op.Op.TheVariants as op
 use Rattle.trees.specs.Trees.{Tree, Var, Make, NoTrees, More, Subst, apply, up, push, shift_by}
 use Rattle.trees.specs.Judgements.{trees}
