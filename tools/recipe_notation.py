@@ -100,8 +100,9 @@ def judgement(text, names):
     return (form, places)
 
 
-# Normal forms, with the parts unknown. A substitution is a list of trees, the last pushed first, and
-# its end: a shift, or what is left of a part without its first entries, and then a substitution.
+# Normal forms, with the parts unknown. A substitution is a list of trees, the last pushed first,
+# and its end: a shift, or what is left of a part without its first entries, and then a
+# substitution.
 
 
 def look(sub, index):

@@ -118,13 +118,13 @@ class Table:
             lines += wrapped(comment) + broken(f"    {text},")
         outs = ", ".join(str(self.nodes[node]) for _, node in self.recipe.outs)
         given = ", ".join(label for label, _ in self.recipe.outs)
-        lines += ["};", "", f"/// The rows of what it gives: {given}.",
+        lines += ["};", "", *wrapped(f"The rows of what it gives: {given}.", "/// ", "/// "),
                   f"pub static {name}_GIVES: &[u16] = &[{outs}];", ""]
         return "\n".join(lines)
 
 
-def wrapped(comment):
-    indents = {"initial_indent": "    // ", "subsequent_indent": "    //   "}
+def wrapped(comment, first="    // ", further="    //   "):
+    indents = {"initial_indent": first, "subsequent_indent": further}
     return textwrap.wrap(comment or "", WIDTH, **indents)
 
 

@@ -1,6 +1,7 @@
 //! The calls.
 
-ghost use Rattle.std.specs.Prelude.{◌≡◌, ◌≤◌, ◌<◌, ◌+◌, ◌++◌, [], ◌∷◌, List, Some, IfOk, IsOk, length};
+ghost use Rattle.std.specs.Prelude.{◌≡◌, ◌≤◌, ◌<◌, ◌+◌, ◌++◌, [], ◌∷◌, List, length};
+ghost use Rattle.std.specs.Prelude.{Some, IfOk, IsOk};
 ghost use Rattle.trees.specs.Judgements.{Judgement};
 ghost use Rattle.trees.specs.Things.{Thing, meanings};
 ghost use Rattle.book.specs.Shown.{book_concludes, Extends};
@@ -23,7 +24,8 @@ use std::alloc::AllocError;
 /// The most rows and nodes that a call adds to a book: preservation, with the filling in it.
 pub const ROWS: u64 = 4805;
 
-/// A use of a derived rule: its parts are rows, and its premises past that of the context are nodes.
+/// A use of a derived rule: its parts are rows, and its premises past that of the context are
+/// nodes.
 #[derive(Drop)]
 pub struct Derive {
     pub parts: Few,
@@ -118,8 +120,8 @@ pub fn fill(book: &mut Book, ctx: NodeId, step: &Derive) -> Result<Derived, Allo
     Ok(call(book, &NoRecipes, FILL, FILL_GIVES, ctx, step)?)
 }
 
-/// Contraction, of parts G A c p b and the premises `G >> A`, `G >> c : isContr A` and `G.p >> b : A`:
-/// `Contr(A, c, p, b)` has the type A, and is b where p is.
+/// Contraction, of parts G A c p b and the premises `G >> A`, `G >> c : isContr A` and
+/// `G.p >> b : A`: `Contr(A, c, p, b)` has the type A, and is b where p is.
 ///
 /// # Errors
 /// Only where memory runs out that the spare does not cover.

@@ -1,5 +1,5 @@
-//! The derived rules of the Kan operations as calls over a book: filling, contraction, preservation,
-//! and extension of an element of a fiber.
+//! The derived rules of the Kan operations as calls over a book: filling, contraction,
+//! preservation, and extension of an element of a fiber.
 //!
 //! ```text
 //! let step = Derive { parts, premises };      // G A p b a r, and the premises of `comp`

@@ -1,4 +1,5 @@
--- What is tried of filling, contraction and preservation: what is given of each, with nothing wanted.
+-- What is tried of filling, contraction and preservation: what is given of each, with nothing
+-- wanted.
 use Rattle.std.specs.Prelude.{List, [], ◌∷◌, ◌++◌}
 use Rattle.trees.specs.declared.op.Op.TheVariants as op
 use Rattle.trees.specs.declared.kind.PartKind.{PartKind}
@@ -20,7 +21,8 @@ module _ (L : Language) where
   abbrev max : L.tree → L.tree → L.tree
   max r s = L.make op.Max (r ∷ s ∷ [])
 
-  -- the type of a filling of a by itself, and what it is where p is; A and a are weakened for a line
+  -- the type of a filling of a by itself, and what it is where p is; A and a are weakened for a
+  -- line
   abbrev filled : L.context → L.tree → L.tree → L.tree → L.tree → List (JudgementOf L)
   filled G A p a r =
       let whole = fill L (weakened L A) p (weakened L a) a r in

@@ -138,5 +138,6 @@ pub static FILL_FACES: &[Row] = table! {
         [4, 10, 86, 11, 88, 0, 0, 0, 0, 0, 0, 0, 0, 0, 0, 0]),
 };
 
-/// The rows of what it gives: typing1, face1, typing2, face2, typing3, face3, typing4, face4, typing5, face5, typing6, face6.
+/// The rows of what it gives: typing1, face1, typing2, face2, typing3, face3, typing4, face4,
+/// typing5, face5, typing6, face6.
 pub static FILL_FACES_GIVES: &[u16] = &[22, 25, 35, 38, 48, 51, 64, 67, 77, 80, 90, 93];

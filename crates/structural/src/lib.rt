@@ -2,14 +2,23 @@
 //! again and again.
 #![tactic(auto)]
 
-ghost use Rattle.std.specs.Prelude.{[]};
-ghost use Rattle.recipes.specs.Derivations.{Derives};
-ghost use Rattle.structural.specs.Statements.{lift_var_statement, lift_name_statement, lift_face_statement};
-ghost use Rattle.structural.specs.Statements.{swap_face_statement, swap_faces_statement, merge_faces_statement};
-ghost use Rattle.structural.specs.Statements.{restrict_ty0_statement, restrict_ty1_statement, restrict_tm0_statement};
-ghost use Rattle.structural.specs.Statements.{restrict_tm1_statement, cover_ty_statement, cover_tm_statement};
-ghost use Rattle.structural.specs.Statements.{lam_cong_statement, pair_cong_statement, plam_cong_statement};
-ghost use Rattle.structural.specs.Statements.{sys_cong_statement, glue_cong_statement};
+ghost use Rattle.std.specs.Prelude.{[], ◌∷◌};
+ghost use Rattle.recipes.specs.Derivations.{Derives, StatesAt};
+ghost use Rattle.trees.specs.Trees.{Tree, Subst};
+ghost use Rattle.trees.specs.Judgements.{Context, trees};
+ghost use Rattle.trees.specs.Things.{AContext, ASubst, ATree};
+ghost use Rattle.structural.specs.Statements.{lift_var, lift_name, lift_face, swap_face};
+ghost use Rattle.structural.specs.Statements.{swap_faces, merge_faces, cover_ty, cover_tm};
+ghost use Rattle.structural.specs.Statements.{lam_cong, pair_cong, plam_cong, sys_cong, glue_cong};
+ghost use Rattle.structural.specs.Statements.{lift_var_statement, lift_name_statement};
+ghost use Rattle.structural.specs.Statements.{lift_face_statement, swap_face_statement};
+ghost use Rattle.structural.specs.Statements.{swap_faces_statement, merge_faces_statement};
+ghost use Rattle.structural.specs.Statements.{restrict_ty0_statement, restrict_ty1_statement};
+ghost use Rattle.structural.specs.Statements.{restrict_tm0_statement, restrict_tm1_statement};
+ghost use Rattle.structural.specs.Statements.{cover_ty_statement, cover_tm_statement};
+ghost use Rattle.structural.specs.Statements.{lam_cong_statement, pair_cong_statement};
+ghost use Rattle.structural.specs.Statements.{plam_cong_statement, sys_cong_statement};
+ghost use Rattle.structural.specs.Statements.{glue_cong_statement};
 
 /// The rows of a table, each on a line of its own however long.
 macro_rules! table {
@@ -87,4 +96,61 @@ pub fn congruences_are_derived()
     ensures plam { Derives [] plam_cong_statement PLAM_CONG.now PLAM_CONG_GIVES.now }
     ensures sys { Derives [] sys_cong_statement SYS_CONG.now SYS_CONG_GIVES.now }
     ensures glue { Derives [] glue_cong_statement GLUE_CONG.now GLUE_CONG_GIVES.now }
+{}
+
+/// At trees the statements are what their definitions say there.
+pub fn statements_at_trees()
+    ensures lift_var { (H : Context) (d : Subst) (G : Context) (A : Tree) →
+        StatesAt lift_var_statement
+        (AContext H ∷ ASubst d ∷ AContext G ∷ ATree A ∷ [])
+        (lift_var trees H d G A) }
+    ensures lift_name { (H : Context) (d : Subst) (G : Context) →
+        StatesAt lift_name_statement
+        (AContext H ∷ ASubst d ∷ AContext G ∷ [])
+        (lift_name trees H d G) }
+    ensures lift_face { (H : Context) (d : Subst) (G : Context) (p : Tree) →
+        StatesAt lift_face_statement
+        (AContext H ∷ ASubst d ∷ AContext G ∷ ATree p ∷ [])
+        (lift_face trees H d G p) }
+    ensures swap_face { (G : Context) (p : Tree) →
+        StatesAt swap_face_statement
+        (AContext G ∷ ATree p ∷ [])
+        (swap_face trees G p) }
+    ensures swap_faces { (G : Context) (p q : Tree) →
+        StatesAt swap_faces_statement
+        (AContext G ∷ ATree p ∷ ATree q ∷ [])
+        (swap_faces trees G p q) }
+    ensures merge_faces { (G : Context) (p q : Tree) →
+        StatesAt merge_faces_statement
+        (AContext G ∷ ATree p ∷ ATree q ∷ [])
+        (merge_faces trees G p q) }
+    ensures cover_ty { (G : Context) (p q a b : Tree) →
+        StatesAt cover_ty_statement
+        (AContext G ∷ ATree p ∷ ATree q ∷ ATree a ∷ ATree b ∷ [])
+        (cover_ty trees G p q a b) }
+    ensures cover_tm { (G : Context) (p q a b A : Tree) →
+        StatesAt cover_tm_statement
+        (AContext G ∷ ATree p ∷ ATree q ∷ ATree a ∷ ATree b ∷ ATree A ∷ [])
+        (cover_tm trees G p q a b A) }
+    ensures lam_cong { (G : Context) (A C b c B : Tree) →
+        StatesAt lam_cong_statement
+        (AContext G ∷ ATree A ∷ ATree C ∷ ATree b ∷ ATree c ∷ ATree B ∷ [])
+        (lam_cong trees G A C b c B) }
+    ensures pair_cong { (G : Context) (a b u v A B : Tree) →
+        StatesAt pair_cong_statement
+        (AContext G ∷ ATree a ∷ ATree b ∷ ATree u ∷ ATree v ∷ ATree A ∷ ATree B ∷ [])
+        (pair_cong trees G a b u v A B) }
+    ensures plam_cong { (G : Context) (A b c u v : Tree) →
+        StatesAt plam_cong_statement
+        (AContext G ∷ ATree A ∷ ATree b ∷ ATree c ∷ ATree u ∷ ATree v ∷ [])
+        (plam_cong trees G A b c u v) }
+    ensures sys_cong { (G : Context) (p q a b u v A : Tree) →
+        StatesAt sys_cong_statement
+        (AContext G ∷ ATree p ∷ ATree q ∷ ATree a ∷ ATree b ∷ ATree u ∷ ATree v ∷ ATree A ∷ [])
+        (sys_cong trees G p q a b u v A) }
+    ensures glue_cong { (G : Context) (A p T w u a v b : Tree) →
+        StatesAt glue_cong_statement
+        (AContext G ∷ ATree A ∷ ATree p ∷ ATree T ∷ ATree w ∷
+        ATree u ∷ ATree a ∷ ATree v ∷ ATree b ∷ [])
+        (glue_cong trees G A p T w u a v b) }
 {}
