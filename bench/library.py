@@ -1,10 +1,11 @@
 #!/usr/bin/env python3
 """Builds and runs a program over the crates of this repository, in a copy that is thrown away afterwards.
 
-usage: python3 bench/library.py NAME
+usage: python3 bench/library.py NAME [WORD ..]
 
 The program's text is bench/timing/NAME.txt; it may use each crate that crates.txt lists, or names as used by one. It is
-proved safe like any other program of the repository, built, and run; what it prints is printed.
+proved safe like any other program of the repository, built, and run; what it prints is printed. Then it is run for each
+WORD, with that word alone, and a line says how many megabytes of memory that took at its peak.
 """
 
 import os
@@ -46,15 +47,27 @@ def make(folder, text):
     return crate
 
 
+def measured(program, word):
+    """What the program prints when it is run with that word, and the kilobytes of memory that it takes at its peak."""
+    started = subprocess.Popen([program, word], stdout=subprocess.PIPE, text=True)
+    told = started.stdout.read()
+    _, status, usage = os.wait4(started.pid, 0)
+    started.returncode = os.waitstatus_to_exitcode(status)
+    return told, usage.ru_maxrss
+
+
 def main():
-    if len(sys.argv) != 2:
+    if len(sys.argv) < 2:
         sys.exit(__doc__.strip())
     with open(os.path.join(BENCH, "timing", f"{sys.argv[1]}.txt")) as file:
         text = file.read()
     with tempfile.TemporaryDirectory() as folder:
         crate = make(folder, text)
         done = subprocess.run(["rt", "run"], cwd=crate, capture_output=True, text=True)
-    print(done.stdout, end="")
+        print(done.stdout, end="")
+        for word in sys.argv[2:] if done.returncode == 0 else []:
+            told, kilobytes = measured(os.path.join(crate, "out", PROGRAM), word)
+            print(f"{told.rstrip()}, {kilobytes / 1000:,.0f} MB")
     if done.returncode != 0:
         print(done.stderr, end="", file=sys.stderr)
     sys.exit(done.returncode)
