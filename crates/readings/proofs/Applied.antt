@@ -46,6 +46,18 @@ leading_at (Argument' y ∷ es) zero x s f h e a = cc
 leading_at (Argument' y ∷ es) (suc k) x s f h e a = let i = leading_at es k x s f (omega arith) e a in omega arith
 leading_at (At' t g ∷ es) k x s f h e a = omega arith
 
+-- no argument stands first
+pub leading_none : (es : List Element) → ((e : Exp) (rest : List Element) → es ≡ Argument' e ∷ rest → ⊥) → leading es < 1
+unfolding leading
+leading_none [] h = omega arith
+leading_none (Argument' e ∷ es) h = absurd (h e es refl)
+leading_none (At' s f ∷ es) h = omega arith
+
+-- one stands first, and so many behind it
+pub leading_more : (es : List Element) (e : Exp) (rest : List Element) → es ≡ Argument' e ∷ rest → leading es ≡ suc (leading rest)
+unfolding leading
+leading_more es e rest h = ap leading h
+
 -- where a name takes no arguments of its own
 
 headed_plain : (bytes : List ℕ) (s : ℕ) (m : Meaning) (es : List Element) (G : Scope Word) → (m ≡ BuiltInName built_in.Suc → leading es < 1) → (m ≡ BuiltInName built_in.NatRec → leading es < 4)
