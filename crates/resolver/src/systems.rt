@@ -111,12 +111,14 @@ impl<'a> Resolver<'a> {
                 components,
             } => match components.as_slice() {
                 [] => self.no_pair(place, span, exp),
-                [only] => self.pair(place, span, only),
-                [first, rest @ ..] => {
-                    let ty = self.exp(place, first)?;
-                    let equivalence = tuple(*inner, self.exps(place, rest)?);
-                    Ok(Pair { ty, equivalence })
-                }
+                [first, rest @ ..] => match rest {
+                    [] => self.pair(place, span, first),
+                    [_, ..] => {
+                        let ty = self.exp(place, first)?;
+                        let equivalence = tuple(*inner, self.exps(place, rest)?);
+                        Ok(Pair { ty, equivalence })
+                    }
+                },
             },
             Exp::PathLambda {
                 span: _,

@@ -3,6 +3,7 @@
 #![tactic(auto)]
 
 mod applied;
+mod arguments;
 mod defs;
 mod exps;
 mod opened;
@@ -15,6 +16,3 @@ pub use codes::{
 pub use resolving::{Codes, resolve, resolve_exp};
 pub use scopes::{Scope, ScopeName, ScopeNames};
 pub use translation::ScopeFault;
-
-#[cfg(test)]
-mod tests;

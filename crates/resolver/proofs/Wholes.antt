@@ -51,7 +51,7 @@ module _ (names : List ScopeName) (next : ℕ) where
   exp_holds bytes s t e c earlier first h none =
       let here : Resolves start t (term_of bytes e) (meaning c) = subst (λ x. Resolves x t (term_of bytes e) (meaning c)) first h in
       let moves : (bodies : ℕ → Tree) → Moves start.so_far t.so_far Same ((reading bytes (tree_of e)).term (words bodies names)) (meaning c (numbers bodies names)) =
-          λ bodies. here.moving.moves (words bodies names) (numbers bodies names) (start_agrees earlier bodies) in
+      λ bodies. here.moving.moves (words bodies names) (numbers bodies names) (start_agrees earlier bodies) in
       record {
         tree = λ bodies. (moves bodies).value;
         holds = λ bodies. holds _ _ (moves bodies) none;
@@ -76,7 +76,7 @@ module _ (names : List ScopeName) (next : ℕ) where
   unfolding code_block
   codes_hold bytes s t m ds cs earlier first listed opens named none =
       let here : Opens start t (block bytes (defs bytes (defs_of m.defs))) (definitions (defs_in cs)) =
-          subst (λ b. Opens start t b (definitions (defs_in cs))) (ap (block_of bytes) listed ∙ sym (block_spelt bytes m.defs)) (subst (λ x. Opens x t (block_of bytes ds) (definitions (defs_in cs))) first opens) in
+      subst (λ b. Opens start t b (definitions (defs_in cs))) (ap (block_of bytes) listed ∙ sym (block_spelt bytes m.defs)) (subst (λ x. Opens x t (block_of bytes ds) (definitions (defs_in cs))) first opens) in
       record {
         named = named ∙ ap def_names listed ∙ sym (names_written bytes (def_items m.defs)) ∙ sym (names_spelt bytes m.defs);
         holds = λ bodies. holds _ _ (here.moves (words bodies names) (numbers bodies names) (start_agrees earlier bodies)) none;
@@ -87,6 +87,6 @@ module _ (names : List ScopeName) (next : ℕ) where
   unfolding code_block
   codes_refused bytes s t m ds cs r fault earlier first listed opens some refuses bodies =
       let here : Opens start t (block bytes (defs bytes (defs_of m.defs))) (definitions cs) =
-          subst (λ b. Opens start t b (definitions cs)) (ap (block_of bytes) listed ∙ sym (block_spelt bytes m.defs)) (subst (λ x. Opens x t (block_of bytes ds) (definitions cs)) first opens) in
+      subst (λ b. Opens start t b (definitions cs)) (ap (block_of bytes) listed ∙ sym (block_spelt bytes m.defs)) (subst (λ x. Opens x t (block_of bytes ds) (definitions cs)) first opens) in
       let k = here.moves (words bodies names) (numbers bodies names) (start_agrees earlier bodies) in
       subst (λ x. Refuses fault x) (sym some ∙ k.refusal) refuses

@@ -1,6 +1,11 @@
 //! Names that are applied, and what heads are applied to.
 
-ghost use Rattle.std.specs.Prelude.{[], ◌∷◌, IfOk};
+ghost use Rattle.std.specs.Prelude.{◌≡◌, [], ◌∷◌, IfOk};
+ghost use Rattle.translation.specs.declared.built_in.BuiltIn.TheVariants.{NatRec as the_recursor};
+ghost use Rattle.translation.specs.declared.built_in.BuiltIn.TheVariants.{Suc as the_successor};
+ghost use Rattle.translation.specs.Texts.{word};
+ghost use Rattle.scopes.specs.declared.names.Found.TheVariants.{BuiltIn as a_built_in};
+ghost use Rattle.scopes.specs.Finding.{find};
 ghost use Rattle.scopes.specs.Steps.{Resolves};
 ghost use Rattle.readings.specs.Spelt.{
   Applies,
@@ -13,6 +18,7 @@ ghost use Rattle.readings.specs.Spelt.{
   plain_of,
 };
 
+use crate::arguments::first_argument;
 use crate::resolving::Resolver;
 use codes::{Code, Element};
 use layout_lexer::Span;
@@ -35,35 +41,9 @@ impl<'a> Resolver<'a> {
         ensures { IfOk result (λ c. Resolves place.old place.new
             (named_of self.now.names.bytes.now name elements.now) (code_term c)) }
     {
-        let alloc = self.names.alloc;
         match place.find(self.names.spelling(name)) {
-            Found::BuiltIn(BuiltIn::Suc) => match elements {
-                [Argument(argument), rest @ ..] => {
-                    let argument = self.exp(place, argument)?;
-                    let head = Code::suc(alloc, name, argument)?;
-                    let elements = self.elements(place, rest)?;
-                    Code::apply(alloc, span, head, elements)
-                }
-                _ => self.plain(place, span, name, elements),
-            },
-            Found::BuiltIn(BuiltIn::NatRec) => match elements {
-                [
-                    Argument(motive),
-                    Argument(base),
-                    Argument(step),
-                    Argument(argument),
-                    rest @ ..,
-                ] => {
-                    let motive = self.motive(place, span_of(motive), motive)?;
-                    let base = self.exp(place, base)?;
-                    let step = self.exp(place, step)?;
-                    let argument = self.exp(place, argument)?;
-                    let head = Code::natrec(alloc, name, motive, base, step, argument)?;
-                    let elements = self.elements(place, rest)?;
-                    Code::apply(alloc, span, head, elements)
-                }
-                _ => self.plain(place, span, name, elements),
-            },
+            Found::BuiltIn(BuiltIn::Suc) => self.suc(place, span, name, elements),
+            Found::BuiltIn(BuiltIn::NatRec) => self.natrec(place, span, name, elements),
             Found::BuiltIn(BuiltIn::Nat) => self.plain(place, span, name, elements),
             Found::BuiltIn(BuiltIn::Zero) => self.plain(place, span, name, elements),
             Found::Variable(_) => self.plain(place, span, name, elements),
@@ -71,6 +51,65 @@ impl<'a> Resolver<'a> {
             Found::Definition(_) => self.plain(place, span, name, elements),
             Found::Nothing => self.plain(place, span, name, elements),
         }
+    }
+
+    /// `suc elements`, of the built-in `suc`.
+    #[cycle(resolve)]
+    fn suc(
+        &self,
+        place: &mut Place<'a>,
+        span: Span,
+        name: Span,
+        elements: &[syntax::Element],
+    ) -> Result<Code, AllocError>
+        requires { find place.old.names (word self.now.names.bytes.now name)
+            ≡ a_built_in the_successor }
+        ensures { IfOk result (λ c. Resolves place.old place.new
+            (named_of self.now.names.bytes.now name elements.now) (code_term c)) }
+    {
+        let Some((argument, rest)) = first_argument(elements) else {
+            return self.plain(place, span, name, elements);
+        };
+        let argument = self.exp(place, argument)?;
+        let head = Code::suc(self.names.alloc, name, argument)?;
+        let elements = self.elements(place, rest)?;
+        Code::apply(self.names.alloc, span, head, elements)
+    }
+
+    /// `natrec elements`, of the built-in `natrec`.
+    #[cycle(resolve)]
+    fn natrec(
+        &self,
+        place: &mut Place<'a>,
+        span: Span,
+        name: Span,
+        elements: &[syntax::Element],
+    ) -> Result<Code, AllocError>
+        requires { find place.old.names (word self.now.names.bytes.now name)
+            ≡ a_built_in the_recursor }
+        ensures { IfOk result (λ c. Resolves place.old place.new
+            (named_of self.now.names.bytes.now name elements.now) (code_term c)) }
+    {
+        let Some((motive, rest)) = first_argument(elements) else {
+            return self.plain(place, span, name, elements);
+        };
+        let Some((base, rest)) = first_argument(rest) else {
+            return self.plain(place, span, name, elements);
+        };
+        let Some((step, rest)) = first_argument(rest) else {
+            return self.plain(place, span, name, elements);
+        };
+        let Some((argument, rest)) = first_argument(rest) else {
+            return self.plain(place, span, name, elements);
+        };
+        let alloc = self.names.alloc;
+        let motive = self.motive(place, span_of(motive), motive)?;
+        let base = self.exp(place, base)?;
+        let step = self.exp(place, step)?;
+        let argument = self.exp(place, argument)?;
+        let head = Code::natrec(alloc, name, motive, base, step, argument)?;
+        let elements = self.elements(place, rest)?;
+        Code::apply(alloc, span, head, elements)
     }
 
     /// `name elements`, where the name takes no arguments of its own.

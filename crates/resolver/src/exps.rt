@@ -70,9 +70,7 @@ impl<'a> Resolver<'a> {
                 head,
                 elements,
             } => match &**head {
-                Exp::Name { span: name } => {
-                    self.named(place, *span, *name, elements.as_slice())
-                }
+                Exp::Name { span: name } => { self.named(place, *span, *name, elements.as_slice()) }
                 _ => {
                     let head = self.exp(place, head)?;
                     let elements = self.elements(place, elements.as_slice())?;
@@ -150,11 +148,7 @@ impl<'a> Resolver<'a> {
 
     /// Expressions, in order.
     #[cycle(resolve)]
-    pub(crate) fn exps(
-        &self,
-        place: &mut Place<'a>,
-        exps: &[Exp],
-    ) -> Result<Vec<Code>, AllocError>
+    pub(crate) fn exps(&self, place: &mut Place<'a>, exps: &[Exp]) -> Result<Vec<Code>, AllocError>
         ensures { IfOk result (λ cs. Resolves place.old place.new
             (terms_of self.now.names.bytes.now exps.now) (code_terms cs.items)) }
     {

@@ -1,0 +1,59 @@
+-- What is answered of a text, from what was answered of its parts.
+use Rattle.std.proofs.Common.{◌≡◌, ◌<◌, ◌≤◌, ℕ, List, [], ◌∷◌, length, get_or, Result, Ok, Err, IfOk, refl, ap, ◌∙◌, subst, arith}
+use Rattle.layout_lexer.specs.declared.token.Span.{Span}
+use Rattle.syntax.specs.declared.exp.Exp.{Exp}
+use Rattle.syntax.specs.declared.exp.Element.{Element, Argument as Argument'}
+use Rattle.trees.specs.Trees.{Tree}
+use Rattle.translation.specs.declared.built_in.BuiltIn.TheVariants as built_in
+use Rattle.translation.specs.Names.{Word}
+use Rattle.translation.specs.Texts.{word}
+use Rattle.translation.specs.Forms.{Means}
+use Rattle.codes.specs.declared.code.Code.{Code}
+use Rattle.codes.specs.Codes.{meaning}
+use Rattle.scopes.specs.declared.names.Found.{Found}
+use Rattle.scopes.specs.declared.names.Found.TheVariants as found
+use Rattle.scopes.specs.Finding.{find}
+use Rattle.scopes.specs.Steps.{State, Resolves}
+use Rattle.readings.specs.Spelt.{code_pair, code_term, named_of, plain_of}
+use Rattle.readings.proofs.FormLaws.{answer_fits}
+use Rattle.readings.proofs.Applied.{leading, plain_named}
+use Rattle.readings.proofs.Slices.{front_one, rest_after}
+use Rattle.resolver.specs.declared.systems.Pair.{Pair}
+
+pub pair_answer_is : {E : Type 0} (s t : State) {f h : Means Word (Tree × Tree)} (r : Result Pair E)
+    → f ≡ h → IfOk r (λ p. Resolves s t f (code_pair p.ty p.equivalence)) → IfOk r (λ p. Resolves s t h (code_pair p.ty p.equivalence))
+pair_answer_is s t (Ok p) e k = subst (λ m. Resolves s t m (code_pair p.ty p.equivalence)) e k
+pair_answer_is s t (Err x) e k = tt
+
+-- whatever code of that meaning is made
+pub made_answers : {E : Type 0} {s t : State} {f : Means Word Tree} {g : Means ℕ Tree} (r : Result Code E)
+    → IfOk r (λ c. meaning c ≡ g) → ((D : Code) → meaning D ≡ g → Resolves s t f (meaning D)) → IfOk r (λ c. Resolves s t f (code_term c))
+unfolding code_term
+made_answers (Ok c) e k = k c e
+made_answers (Err x) e k = tt
+
+module _ {E : Type 0} (bytes : List ℕ) (s t : State) (n : Span) (es : List Element) (f : Found) (r : Result Code E) (found_is : f ≡ find s.names (word bytes n)) where
+  -- too few arguments for a name that takes some of its own
+  pub few_named : (f ≡ found.BuiltIn built_in.Suc → leading es < 1) → (f ≡ found.BuiltIn built_in.NatRec → leading es < 4)
+      → IfOk r (λ c. Resolves s t (plain_of bytes n es) (code_term c)) → IfOk r (λ c. Resolves s t (named_of bytes n es) (code_term c))
+  few_named suc_few rec_few =
+      answer_fits s t (plain_of bytes n es) (named_of bytes n es) r (λ C h. plain_named bytes n es f found_is C suc_few rec_few h)
+
+  -- a name that takes none
+  pub other_named : (f ≡ found.BuiltIn built_in.Suc → ⊥) → (f ≡ found.BuiltIn built_in.NatRec → ⊥)
+      → IfOk r (λ c. Resolves s t (plain_of bytes n es) (code_term c)) → IfOk r (λ c. Resolves s t (named_of bytes n es) (code_term c))
+  other_named no_suc no_rec = few_named (λ e. absurd (no_suc e)) (λ e. absurd (no_rec e))
+
+-- the first of a slice, read with any default
+pub front_any : {X : Type 0} (xs : List X) (d : X) → 1 ≤ length xs → xs ≡ get_or xs 0 d ∷ rest_after 1 xs
+front_any [] d h = absurd (omega arith)
+front_any (y ∷ ys) d h = front_one (y ∷ ys) y h refl
+
+-- four arguments, one after the other
+pub four_arguments : {es xs ys zs rest : List Element} {P a b k : Exp} → es ≡ Argument' P ∷ xs → xs ≡ Argument' a ∷ ys → ys ≡ Argument' b ∷ zs → zs ≡ Argument' k ∷ rest
+    → es ≡ Argument' P ∷ Argument' a ∷ Argument' b ∷ Argument' k ∷ rest
+four_arguments {P = P} {a = a} {b = b} e f g h = e ∙ ap (λ vs. Argument' P ∷ vs) (f ∙ ap (λ vs. Argument' a ∷ vs) (g ∙ ap (λ vs. Argument' b ∷ vs) h))
+
+-- what a place that is not there is read as
+abbrev pub no_span : Span
+no_span = record { start = 0; end = 0 }
