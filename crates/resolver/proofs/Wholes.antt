@@ -1,18 +1,16 @@
 -- Whole texts, in the scope of other modules.
-use Rattle.std.proofs.Common.{◌≡◌, ◌+◌, ◌-◌, ◌<◌, ◌≤◌, ℕ, zero, suc, List, [], ◌∷◌, map, length, reverse, get_or, Option, Some, None, refl, sym, ap, ◌∙◌, arith, subst}
+use Rattle.std.proofs.Common.{◌≡◌, ◌-◌, ◌<◌, ℕ, suc, List, [], ◌∷◌, map, length, reverse, get_or, Some, None, sym, ap, ◌∙◌, arith, subst}
 use Rattle.std.proofs.lemmas.List.{get_or-reverse, length-reverse}
 use Rattle.syntax.specs.declared.exp.Exp.{Exp}
 use Rattle.syntax.specs.declared.exp.Def.{Def}
 use Rattle.syntax.specs.declared.exp.Defs.{Defs}
 use Rattle.syntax.specs.declared.exp.Module.{Module as ModuleOf}
-use Rattle.syntax.specs.View.{tree_of, tree_list, def_of, defs_of, def_items, module_of}
+use Rattle.syntax.specs.View.{tree_of, defs_of, def_items, module_of}
 use Rattle.syntax.proofs.Rows.{defs_of_items}
 use Rattle.trees.specs.Trees.{Tree}
 use Rattle.translation.specs.declared.fault.Refusal.{Refusal}
 use Rattle.translation.specs.declared.fault.ScopeFault.{ScopeFault}
-use Rattle.translation.specs.Scopes.{Scope}
 use Rattle.translation.specs.Translated.{Refuses}
-use Rattle.translation.specs.Names.{Word}
 use Rattle.translation.specs.Texts.{Written, reading, block, defs}
 use Rattle.codes.specs.declared.code.Code.{Code}
 use Rattle.codes.specs.declared.code.CodeDef.{CodeDef}

@@ -1,5 +1,5 @@
 -- The argument that stands first among what a head is applied to.
-use Rattle.std.specs.Prelude.{◌≡◌, List, [], ◌∷◌, Option, Some, None}
+use Rattle.std.specs.Prelude.{◌≡◌, List, ◌∷◌, Option, Some, None}
 use denote.Ref.{Bor}
 use Rattle.syntax.specs.declared.exp.Exp.{Exp}
 use Rattle.syntax.specs.declared.exp.Element.{Element, Argument as Argument'}

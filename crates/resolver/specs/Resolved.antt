@@ -1,5 +1,5 @@
 -- What resolving answers.
-use Rattle.std.specs.Prelude.{◌≡◌, ◌<◌, ℕ, List, [], ◌∷◌, map, length, reverse, None}
+use Rattle.std.specs.Prelude.{◌≡◌, ◌<◌, ℕ, List, [], map, length, reverse, None}
 use Rattle.std.specs.List.{All}
 use Rattle.layout_lexer.specs.declared.token.Span.{Span}
 use Rattle.syntax.specs.Tree as text
@@ -9,7 +9,7 @@ use Rattle.codes.specs.declared.code.Code.{Code}
 use Rattle.codes.specs.declared.code.CodeDef.{CodeDef, out-CodeDef}
 use Rattle.scopes.specs.declared.scope.ScopeName.{ScopeName}
 use Rattle.resolver.specs.declared.resolving.Codes.{Codes}
-use Rattle.translation.specs.Scopes.{Entry, Definition, Scope}
+use Rattle.translation.specs.Scopes.{Definition, Scope}
 use Rattle.translation.specs.Translated.{Translated, Refuses, judgements_of}
 use Rattle.translation.specs.Names.{Word}
 use Rattle.translation.specs.Texts.{Written, reading, block, defs}

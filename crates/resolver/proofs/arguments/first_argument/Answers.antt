@@ -1,6 +1,5 @@
-use Rattle.std.proofs.Common.{◌≡◌, ◌<◌, ◌∷◌, length, sym, ap, ◌∙◌, arith}
-use Rattle.syntax.specs.declared.exp.Element.{Argument as Argument', At as At'}
-use Rattle.readings.proofs.Slices.{front_one, none, rest_after}
+use Rattle.std.proofs.Common.{◌∷◌, length, sym, ap, ◌∙◌, arith}
+use Rattle.readings.proofs.Slices.{front_one, rest_after}
 use Rattle.resolver.proofs.arguments.first_argument.Goals as goal
 
 pub returns-in-empty : goal.returns-in-empty

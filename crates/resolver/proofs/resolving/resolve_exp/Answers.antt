@@ -1,5 +1,5 @@
-use Rattle.std.proofs.Common.{◌≡◌, sym, ◌∙◌}
-use Rattle.resolver.proofs.Wholes.{codes_hold, codes_refused, exp_holds, exp_refused}
+use Rattle.std.proofs.Common.{sym, ◌∙◌}
+use Rattle.resolver.proofs.Wholes.{exp_holds, exp_refused}
 use Rattle.resolver.proofs.resolving.resolve_exp.Goals as goal
 
 pub returns-in-None-clause-ok : goal.returns-in-None-clause-ok

@@ -1,4 +1,4 @@
-use Rattle.std.proofs.Common.{◌≡◌, ◌+◌, ◌<◌, ◌∷◌, length, get_or, map, take, is_some, refl, sym, ap, ◌∙◌, subst, arith}
+use Rattle.std.proofs.Common.{◌∷◌, length, get_or, map, is_some, refl, sym, ap, ◌∙◌, subst, arith}
 use Rattle.codes.specs.declared.code.CodeDef.{out-CodeDef}
 use Rattle.readings.specs.Spelt.{plain_of, words_of}
 use Rattle.translation.specs.Terms.{lam, pi, sig}
