@@ -1,0 +1,107 @@
+//! One module: what its file holds, and how that is read.
+
+ghost use Rattle.std.specs.Prelude.{◌≡◌, IfErr, IfOk, string_bytes};
+ghost use Rattle.syntax.specs.View.{module_of};
+ghost use Rattle.loading.specs.Texts.{CountsAfter, FailsAt, FailsIn, IsText, ReadsAs};
+ghost use Rattle.loading.specs.Texts.{name_at, path_of};
+
+use edge::{Fetched, Files};
+use grammar::{ReadFault, read};
+use layout_lexer::{LexFault, Span, tokens};
+use std::alloc::{AllocError, Global};
+use syntax::Module;
+
+/// A module that was read.
+#[derive(Drop)]
+pub struct ModuleText {
+    pub name: String,
+    /// What its file holds.
+    pub bytes: Vec<u8>,
+    pub module: Module,
+}
+
+/// Why a module is not loaded. Paths are those of the files of modules.
+#[derive(Drop)]
+pub enum LoadFault {
+    /// The file is not there.
+    Missing(String),
+    /// A file could not be read.
+    Unreadable,
+    /// The file holds no tokens.
+    NoTokens(LexFault, String),
+    /// The tokens of the file are read as no module.
+    NoModule(ReadFault, String),
+    /// An import names a module whose loading has not ended.
+    Cycle(String),
+    /// An import names one module more than are loaded for a command.
+    TooMany(String),
+    /// Out of memory.
+    Memory,
+}
+
+/// The path of a module's file.
+pub fn path_of(alloc: Global, name: &str) -> Result<String, AllocError>
+    ensures { IfOk result (λ path. string_bytes path ≡ path_of name.now) }
+{
+    let mut path = String::from_str(alloc, name)?;
+    path.push_str(".ctt")?;
+    Ok(path)
+}
+
+/// The name that a piece of a text spells.
+pub fn name_at(alloc: Global, bytes: &[u8], span: Span) -> Result<String, AllocError>
+    ensures { IfOk result (λ name. string_bytes name ≡ name_at bytes.now span) }
+{
+    let end = (span.end as usize).min(bytes.len());
+    let start = (span.start as usize).min(end);
+    Ok(String::from_utf8_lossy(alloc, &bytes[start..end])?)
+}
+
+/// The module that these bytes spell, which the path holds.
+fn module_in(alloc: Global, bytes: &[u8], path: String) -> Result<Module, LoadFault>
+    ensures ok { IfOk result (λ m. ReadsAs bytes.now (module_of m)) }
+    ensures err { IfErr result (FailsIn bytes.now (string_bytes path)) }
+{
+    let tokens = match tokens(alloc, bytes) {
+        Ok(tokens) => tokens,
+        Err(LexFault::Memory) => return Err(LoadFault::Memory),
+        Err(fault) => return Err(LoadFault::NoTokens(fault, path)),
+    };
+    match read(alloc, bytes, &tokens) {
+        Ok(module) => Ok(module),
+        Err(ReadFault::Memory) => Err(LoadFault::Memory),
+        Err(fault) => Err(LoadFault::NoModule(fault, path)),
+    }
+}
+
+/// Fetches and reads the module of this name, whose file has this path.
+pub fn read_text<F: Files>(
+    alloc: Global,
+    files: &mut F,
+    name: &str,
+    path: String,
+) -> Result<ModuleText, LoadFault>
+    requires { string_bytes path ≡ path_of name.now }
+    ensures ok { IfOk result (IsText (F.held files.old) name.now) }
+    ensures err { IfErr result (FailsAt (F.held files.old) name.now) }
+    ensures counted { CountsAfter result (F.counts files.old) (F.counts files.new) }
+    ensures held { F.held files.new ≡ F.held files.old }
+{
+    let Ok(name) = String::from_str(alloc, name) else {
+        return Err(LoadFault::Memory);
+    };
+    let mut bytes = Vec::new(alloc);
+    match files.fetch(path.as_str(), &mut bytes) {
+        Fetched::Found => match module_in(alloc, &bytes, path) {
+            Ok(module) => Ok(ModuleText {
+                name,
+                bytes,
+                module,
+            }),
+            Err(fault) => Err(fault),
+        },
+        Fetched::Missing => Err(LoadFault::Missing(path)),
+        Fetched::Failed => Err(LoadFault::Unreadable),
+        Fetched::Memory => Err(LoadFault::Memory),
+    }
+}
