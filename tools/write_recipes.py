@@ -21,7 +21,10 @@ CRATES = {
         "restrict_ty0", "restrict_ty1", "restrict_tm0", "restrict_tm1", "cover_ty", "cover_tm",
         "lam_cong", "pair_cong", "plam_cong", "sys_cong", "glue_cong",
     ],
-    "kan_tests": ["fill_faces", "fill_lines", "contr_variable", "pres_numbers"],
+    "kan_tests": [
+        "fill_faces", "fill_lines", "contr_variable", "pres_numbers", "equiv_variable",
+        "fill_premises",
+    ],
 }
 EARLIER = {"pres": ["fill"], "equiv": ["contr"]}
 EARLIER |= {name: CRATES["kan_fill"] for name in CRATES["kan_tests"]}

@@ -1,14 +1,18 @@
--- What is tried of filling, contraction and preservation: what is given of each, with nothing
--- wanted.
+-- What is tried of filling, contraction, preservation and extension: what is given of each, with
+-- nothing wanted.
 use Rattle.std.specs.Prelude.{List, [], ◌∷◌, ◌++◌}
 use Rattle.trees.specs.declared.op.Op.TheVariants as op
 use Rattle.trees.specs.declared.kind.PartKind.{PartKind}
+use Rattle.trees.specs.Judgements.{trees}
+use Rattle.trees.specs.Things.{Thing, AContext, ATree}
 use Rattle.trees.specs.Language.{Language, JudgementOf, Tm, TmEq}
 use Rattle.patterns.specs.Patterns.{patterns}
 use Rattle.rules.specs.Table.{weakened, i0, i1, neg, min, f0, eq0, eq1, join, all, universe}
 use Rattle.rules.specs.Table.{pi, lam, pathp, plam, nat, zero, is_contr, fill}
-use Rattle.kan_fill.specs.Statements.{contraction, preservation, fill_statement, contr_statement}
-use Rattle.kan_fill.specs.Statements.{pres_statement, equiv_statement}
+use Rattle.rules.specs.Table.{equiv, fiber, fst}
+use Rattle.kan_fill.specs.Statements.{filling, contraction, preservation, extension}
+use Rattle.kan_fill.specs.Statements.{fill_statement, contr_statement, pres_statement}
+use Rattle.kan_fill.specs.Statements.{equiv_statement}
 use Rattle.recipes.specs.Statements.{Claimed, Statement, stated}
 
 module _ (L : Language) where
@@ -76,6 +80,20 @@ module _ (L : Language) where
         ++ on_end (pathp L (nat L) (zero L) (zero L)) (plam L (zero L)));
   }
 
+  -- one name
+  abbrev name : L.context
+  name = L.with_name L.nil
+
+  -- the premises of a filling of zero by itself, from the end 0 of a name
+  abbrev premises : Claimed L
+  premises =
+      let end = eq0 L (L.var 0) in
+      record {
+        wants = [];
+        sides = [];
+        gives = (filling L name (nat L) end (zero L) (zero L) (L.var 0)).wants;
+      }
+
   -- The element of a type X that is a variable: of a context with X, that X is contractible, and an
   -- element of X.
 
@@ -101,7 +119,25 @@ module _ (L : Language) where
         wants = [];
         sides = [];
         gives =
-            (preservation L (L.with_name L.nil) (nat L) (nat L) same end (zero L) (zero L)).gives;
+            (preservation L name (nat L) (nat L) same end (zero L) (zero L)).gives;
+      }
+
+  -- An equivalence of numbers that is a variable: of a context with it and an element of its fiber
+  -- at zero.
+
+  abbrev of_fiber : L.context
+  of_fiber =
+      let equivalence = L.with_var name (equiv L (nat L) (nat L)) in
+      L.with_var equivalence (fiber L (nat L) (nat L) (fst L (L.var 0)) (zero L))
+
+  abbrev lifted : Claimed L
+  lifted =
+      let end = eq0 L (L.var 2) in
+      record {
+        wants = [];
+        sides = [];
+        gives =
+            (extension L of_fiber (nat L) (nat L) (L.var 1) end (L.var 0) (zero L)).gives;
       }
 
 abbrev none : List PartKind
@@ -119,6 +155,23 @@ extended_statement = stated none (extended patterns)
 abbrev pub carried_statement : Statement
 carried_statement = stated none (carried patterns)
 
+abbrev pub lifted_statement : Statement
+lifted_statement = stated none (lifted patterns)
+
 -- the earlier recipes that these name
 abbrev pub earlier : List Statement
 earlier = fill_statement ∷ contr_statement ∷ pres_statement ∷ equiv_statement ∷ []
+
+abbrev pub premises_statement : Statement
+premises_statement = stated none (premises patterns)
+
+-- the parts of that filling
+abbrev pub filling_parts : List Thing
+filling_parts =
+    AContext (name trees)
+    ∷ ATree (nat trees)
+    ∷ ATree (eq0 trees (trees.var 0))
+    ∷ ATree (zero trees)
+    ∷ ATree (zero trees)
+    ∷ ATree (trees.var 0)
+    ∷ []

@@ -4,7 +4,8 @@
 
 ghost use Rattle.recipes.specs.Derivations.{Derives};
 ghost use Rattle.kan_tests.specs.Fillings.{faces_statement, lines_statement, extended_statement};
-ghost use Rattle.kan_tests.specs.Fillings.{carried_statement, earlier};
+ghost use Rattle.kan_tests.specs.Fillings.{carried_statement, lifted_statement, earlier};
+ghost use Rattle.kan_tests.specs.Fillings.{premises_statement};
 
 /// The rows of a table, each on a line of its own however long.
 macro_rules! table {
@@ -12,15 +13,21 @@ macro_rules! table {
 }
 
 mod contr_variable;
+mod equiv_variable;
 mod fill_faces;
 mod fill_lines;
+mod fill_premises;
 mod pres_numbers;
 
 pub use contr_variable::{CONTR_VARIABLE, CONTR_VARIABLE_GIVES};
+pub use equiv_variable::{EQUIV_VARIABLE, EQUIV_VARIABLE_GIVES};
 pub use fill_faces::{FILL_FACES, FILL_FACES_GIVES};
 pub use fill_lines::{FILL_LINES, FILL_LINES_GIVES};
+pub use fill_premises::{FILL_PREMISES, FILL_PREMISES_GIVES};
 pub use pres_numbers::{PRES_NUMBERS, PRES_NUMBERS_GIVES};
 
+#[cfg(test)]
+mod call_tests;
 #[cfg(test)]
 mod tests;
 
@@ -38,4 +45,14 @@ pub fn contraction_is_derived()
 /// Numbers, carried along the identity.
 pub fn preservation_is_derived()
     ensures { Derives earlier carried_statement PRES_NUMBERS.now PRES_NUMBERS_GIVES.now }
+{}
+
+/// An element of the fiber of an equivalence, extended from a face.
+pub fn extension_is_derived()
+    ensures { Derives earlier lifted_statement EQUIV_VARIABLE.now EQUIV_VARIABLE_GIVES.now }
+{}
+
+/// The premises of a filling that is called.
+pub fn premises_are_derived()
+    ensures { Derives earlier premises_statement FILL_PREMISES.now FILL_PREMISES_GIVES.now }
 {}

@@ -5,12 +5,12 @@ use Rattle.book_writer.specs.Written.{concluded_by}
 use Rattle.recipe_runner.proofs.BuildLaws.{some-is}
 use Rattle.kan_tests.proofs.tests.verdict.Goals as goal
 
-pub write-requires : goal.write-requires
-write-requires c =
+pub judged-requires : goal.judged-requires
+judged-requires c =
     let gives = c.requires.right.0 in
-    let book = c.run.new.book in
-    let concluded = c.in_ok-numbers.ensures.concludes gives (c.requires.right.1 c.in_ok-book.book) in
+    let book = c.given.new.book in
+    let concluded = c.in_ok-numbers.ensures.gives gives c.requires.right.1 in
     some-is _ gives
-    (ap (concluded_by book) c.deref.ensures.value
+    (ap (concluded_by book) c.as_slice-2.ensures.value
     ∙ ap (meanings (book_concludes book)) (c.in_ok-roots.ensures ∙ c.as_slice.ensures.value)
     ∙ concluded)
