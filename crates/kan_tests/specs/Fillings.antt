@@ -9,7 +9,7 @@ use Rattle.trees.specs.Language.{Language, JudgementOf, Tm, TmEq}
 use Rattle.patterns.specs.Patterns.{patterns}
 use Rattle.rules.specs.Table.{weakened, i0, i1, neg, min, f0, eq0, eq1, join, all, universe}
 use Rattle.rules.specs.Table.{pi, lam, pathp, plam, nat, zero, is_contr, fill}
-use Rattle.rules.specs.Table.{equiv, fiber, fst}
+use Rattle.rules.specs.Table.{equiv, fiber, pair, fst, snd, papp}
 use Rattle.kan_fill.specs.Statements.{filling, contraction, preservation, extension}
 use Rattle.kan_fill.specs.Statements.{fill_statement, contr_statement, pres_statement}
 use Rattle.kan_fill.specs.Statements.{equiv_statement}
@@ -140,6 +140,34 @@ module _ (L : Language) where
             (extension L of_fiber (nat L) (nat L) (L.var 1) end (L.var 0) (zero L)).gives;
       }
 
+  -- The identity of numbers as an equivalence: each fiber contracts to a number and its constant
+  -- path, along the path of the fiber's element.
+
+  abbrev same : L.tree
+  same = lam L (nat L) (L.var 0)
+
+  abbrev identity : L.tree
+  identity =
+      let centre = pair L (L.var 0) (plam L (L.var 1)) in
+      let below = papp L (snd L (L.var 2)) (min L (L.var 1) (L.var 0)) in
+      let between = pair L (papp L (snd L (L.var 1)) (L.var 0)) (plam L below) in
+      let fibers = fiber L (nat L) (nat L) same (L.var 0) in
+      pair L same (lam L (nat L) (pair L centre (lam L fibers (plam L between))))
+
+  abbrev of_identity : L.context
+  of_identity = L.with_var name (fiber L (nat L) (nat L) (fst L identity) (zero L))
+
+  abbrev along_identity : Claimed L
+  along_identity =
+      let end = eq0 L (L.var 1) in
+      record {
+        wants = [];
+        sides = [];
+        gives =
+            Tm name identity (equiv L (nat L) (nat L))
+            ∷ (extension L of_identity (nat L) (nat L) identity end (L.var 0) (zero L)).gives;
+      }
+
 abbrev none : List PartKind
 none = []
 
@@ -157,6 +185,9 @@ carried_statement = stated none (carried patterns)
 
 abbrev pub lifted_statement : Statement
 lifted_statement = stated none (lifted patterns)
+
+abbrev pub identity_statement : Statement
+identity_statement = stated none (along_identity patterns)
 
 -- the earlier recipes that these name
 abbrev pub earlier : List Statement

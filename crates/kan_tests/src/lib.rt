@@ -5,21 +5,25 @@
 ghost use Rattle.recipes.specs.Derivations.{Derives};
 ghost use Rattle.kan_tests.specs.Fillings.{faces_statement, lines_statement, extended_statement};
 ghost use Rattle.kan_tests.specs.Fillings.{carried_statement, lifted_statement, earlier};
-ghost use Rattle.kan_tests.specs.Fillings.{premises_statement};
+ghost use Rattle.kan_tests.specs.Fillings.{identity_statement, premises_statement};
 
 /// The rows of a table, each on a line of its own however long.
 macro_rules! table {
     ($($row:expr,)*) => { &[$($row),*] };
 }
 
+mod calls;
 mod contr_variable;
+mod equiv_numbers;
 mod equiv_variable;
 mod fill_faces;
 mod fill_lines;
 mod fill_premises;
 mod pres_numbers;
 
+pub use calls::{Call, filling};
 pub use contr_variable::{CONTR_VARIABLE, CONTR_VARIABLE_GIVES};
+pub use equiv_numbers::{EQUIV_NUMBERS, EQUIV_NUMBERS_GIVES};
 pub use equiv_variable::{EQUIV_VARIABLE, EQUIV_VARIABLE_GIVES};
 pub use fill_faces::{FILL_FACES, FILL_FACES_GIVES};
 pub use fill_lines::{FILL_LINES, FILL_LINES_GIVES};
@@ -50,6 +54,11 @@ pub fn preservation_is_derived()
 /// An element of the fiber of an equivalence, extended from a face.
 pub fn extension_is_derived()
     ensures { Derives earlier lifted_statement EQUIV_VARIABLE.now EQUIV_VARIABLE_GIVES.now }
+{}
+
+/// The identity of numbers is an equivalence, and an element of its fiber is extended from a face.
+pub fn identity_is_equivalence()
+    ensures { Derives earlier identity_statement EQUIV_NUMBERS.now EQUIV_NUMBERS_GIVES.now }
 {}
 
 /// The premises of a filling that is called.

@@ -1,23 +1,21 @@
 //! Uses of the derived rules as derivation files.
 
-ghost use Rattle.std.specs.Prelude.{◌≡◌, ◌≤◌, [], List, IfOk, IsSome, Some, length, map};
+ghost use Rattle.std.specs.Prelude.{◌≡◌, ◌≤◌, [], List, IfOk, IsSome, length, map};
 ghost use Rattle.trees.specs.Judgements.{Judgement};
-ghost use Rattle.trees.specs.Things.{meanings};
 ghost use Rattle.book.specs.Contents.{Contents};
-ghost use Rattle.book.specs.Shown.{book_concludes, Extends};
 ghost use Rattle.book_writer.specs.Written.{concluded_by};
 ghost use Rattle.kan_tests.specs.Fillings.{earlier};
 ghost use Rattle.recipe_runner.specs.Running.{MayRun, most_made_by};
 
+use crate::calls::given;
 use crate::{
-    CONTR_VARIABLE, CONTR_VARIABLE_GIVES, EQUIV_VARIABLE, EQUIV_VARIABLE_GIVES, FILL_FACES,
-    FILL_FACES_GIVES, FILL_LINES, FILL_LINES_GIVES, PRES_NUMBERS, PRES_NUMBERS_GIVES,
-    contraction_is_derived, extension_is_derived, fillings_are_derived, preservation_is_derived,
+    CONTR_VARIABLE, CONTR_VARIABLE_GIVES, EQUIV_NUMBERS, EQUIV_NUMBERS_GIVES, EQUIV_VARIABLE,
+    EQUIV_VARIABLE_GIVES, FILL_FACES, FILL_FACES_GIVES, FILL_LINES, FILL_LINES_GIVES, PRES_NUMBERS,
+    PRES_NUMBERS_GIVES, contraction_is_derived, extension_is_derived, fillings_are_derived,
+    identity_is_equivalence, preservation_is_derived,
 };
-use book::{Book, Few, NodeId};
+use book::{Book, NodeId};
 use book_writer::write;
-use kan_calls::Kan;
-use recipe_runner::run;
 use recipes::Row;
 use replay::{Verdict, judge};
 use std::alloc::{AllocError, Global};
@@ -32,20 +30,6 @@ fn nodes_of(alloc: Global, numbers: &[u64]) -> Result<Vec<NodeId>, AllocError>
         nodes.push(NodeId(*number))?;
     }
     Ok(nodes)
-}
-
-/// The nodes that a recipe without parts gives.
-pub fn given(book: &mut Book, rows: &[Row], outs: &[u16]) -> Result<Few, AllocError>
-    requires rows { most_made_by rows.now ≤ 512 }
-    requires outs { length outs.now ≤ 16 }
-    requires right { (gives : List Judgement) × ((b : Contents) →
-        MayRun earlier b rows.now outs.now [] [] gives) }
-    ensures extends { Extends book.old book.new }
-    ensures gives { IfOk result (λ nodes. (gives : List Judgement) →
-        ((b : Contents) → MayRun earlier b rows.now outs.now [] [] gives) →
-        meanings (book_concludes book.new) nodes ≡ Some gives) }
-{
-    Ok(run(book, &Kan, rows, outs, &[], &[])?)
 }
 
 /// The verdict on the file of what these nodes conclude.
@@ -107,5 +91,13 @@ fn an_extension_is_right(rt: HostRuntime) -> Result<(), Fail> {
     extension_is_derived();
     let found = verdict(rt.alloc(), EQUIV_VARIABLE, EQUIV_VARIABLE_GIVES)?;
     assert!(rt; matches!(found, Verdict::Yes { roots: 2, .. }));
+    Ok(())
+}
+
+#[test]
+fn an_extension_along_the_identity_is_right(rt: HostRuntime) -> Result<(), Fail> {
+    identity_is_equivalence();
+    let found = verdict(rt.alloc(), EQUIV_NUMBERS, EQUIV_NUMBERS_GIVES)?;
+    assert!(rt; matches!(found, Verdict::Yes { roots: 3, .. }));
     Ok(())
 }

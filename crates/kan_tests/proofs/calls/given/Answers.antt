@@ -1,4 +1,4 @@
-use Rattle.kan_tests.proofs.tests.given.Goals as goal
+use Rattle.kan_tests.proofs.calls.given.Goals as goal
 
 pub returns-clause-gives : goal.returns-clause-gives
 returns-clause-gives c gives right = c.in_ok-run.ensures.concludes gives (right c.args.book.now)

@@ -5,7 +5,7 @@ use Rattle.trees.specs.Trees.{Var}
 use Rattle.trees.specs.Things.{ATree, meanings, with_a_name}
 use Rattle.book.specs.Shown.{book_means}
 use Rattle.kan_tests.proofs.TestLaws.{parts-are, made-of-one}
-use Rattle.kan_tests.proofs.call_tests.parts.Goals as goal
+use Rattle.kan_tests.proofs.calls.parts.Goals as goal
 
 pub returns : goal.returns
 returns c =

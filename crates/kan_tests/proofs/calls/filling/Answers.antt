@@ -8,7 +8,7 @@ use Rattle.recipe_runner.specs.Running.{MayRun}
 use Rattle.kan_tests.specs.Fillings.{premises_statement, filling_parts, earlier}
 use Rattle.kan_tests.specs.declared.fill_premises.TheConstants.{FILL_PREMISES, FILL_PREMISES_GIVES}
 use Rattle.kan_tests.proofs.TestLaws.{may-try, may-fill, five-premises}
-use Rattle.kan_tests.proofs.call_tests.filling.Goals as goal
+use Rattle.kan_tests.proofs.calls.filling.Goals as goal
 
 right : Derives earlier premises_statement FILL_PREMISES.now FILL_PREMISES_GIVES.now → (b : Contents) → MayRun earlier b FILL_PREMISES.now FILL_PREMISES_GIVES.now [] [] (conclusions_at premises_statement [])
 right = may-try earlier premises_statement FILL_PREMISES.now FILL_PREMISES_GIVES.now refl refl refl
