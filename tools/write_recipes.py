@@ -23,7 +23,7 @@ CRATES = {
     ],
     "kan_tests": [
         "fill_faces", "fill_lines", "contr_variable", "pres_numbers", "equiv_variable",
-        "equiv_numbers", "fill_premises",
+        "equiv_numbers", "fill_premises", "pres_premises",
     ],
 }
 EARLIER = {"pres": ["fill"], "equiv": ["contr"]}

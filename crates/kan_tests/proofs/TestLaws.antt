@@ -11,12 +11,12 @@ use Rattle.trees.specs.Trees.{Tree, Var}
 use Rattle.trees.specs.declared.op.Op.{Op}
 use Rattle.trees.specs.Things.{Thing, AContext, ATree, Meanings, meanings, made}
 use Rattle.trees.proofs.Meanings.{meanings-length}
-use Rattle.rules.specs.Table.{eq0, nat, zero}
+use Rattle.rules.specs.Table.{eq0, lam, nat, zero}
 use Rattle.book.specs.Contents.{Contents}
 use Rattle.book.specs.Shown.{book_means, book_concludes}
-use Rattle.kan_fill.specs.Statements.{fill_statement}
+use Rattle.kan_fill.specs.Statements.{fill_statement, pres_statement}
 use Rattle.kan_calls.specs.Calls.{MayCall}
-use Rattle.kan_tests.specs.Fillings.{premises_statement, filling_parts}
+use Rattle.kan_tests.specs.Fillings.{premises_statement, filling_parts, moved_statement, preservation_parts}
 use Rattle.recipes.specs.declared.row.Row.{Row}
 use Rattle.recipes.specs.Statements.{Statement}
 use Rattle.recipes.specs.Made.{ShiftIsAtMost, greatest_part_shift}
@@ -65,4 +65,27 @@ may-fill b ctx parts premises e f = record { parts_are = e; premises_are = f; ma
 pub five-premises : (b : Contents) (ks : List ℕ) → meanings (book_concludes b) ks ≡ Some (conclusions_at premises_statement []) → 0 < length ks
 five-premises b ks e =
     let five : length ks ≡ 5 = meanings-length (book_concludes b) ks (conclusions_at premises_statement []) e in
+    omega arith
+
+-- the parts of a preservation
+
+pub made-of-two : (f : Meanings) (op : Op) (j k : ℕ) (x y : Thing) → f j ≡ Some x → f k ≡ Some y → option_and_then (made op) (meanings f (j ∷ k ∷ [])) ≡ made op (x ∷ y ∷ [])
+made-of-two f op j k x y d e = rw (d, e) refl
+
+pub moved-parts-are : (f : Meanings) (ctx line same face base : ℕ) → f ctx ≡ Some (AContext (WithName Nil)) → f line ≡ Some (ATree (nat trees)) → f same ≡ Some (ATree (lam trees (nat trees) (Var 0))) → f face ≡ Some (ATree (eq0 trees (Var 0))) → f base ≡ Some (ATree (zero trees)) → meanings f (ctx ∷ line ∷ line ∷ same ∷ face ∷ base ∷ base ∷ []) ≡ Some preservation_parts
+moved-parts-are f ctx line same face base e1 e2 e3 e4 e5 = rw (e1, e2, e3, e4, e5) refl
+
+pub preservation-stands : MayStandAt pres_statement preservation_parts
+preservation-stands = record {
+  kinds = refl;
+  shifts = parts-fit (WithName Nil) (nat trees ∷ nat trees ∷ lam trees (nat trees) (Var 0) ∷ eq0 trees (Var 0) ∷ zero trees ∷ zero trees ∷ []);
+  sides = All-cons SideHolds (IsFace (WithName Nil) (eq0 trees (Var 0))) [] refl (All-nil SideHolds);
+}
+
+pub may-preserve : (b : Contents) (ctx : ℕ) (parts premises : List ℕ) → meanings (book_means b) parts ≡ Some preservation_parts → meanings (book_concludes b) (ctx ∷ premises) ≡ Some (conclusions_at moved_statement []) → MayCall pres_statement b ctx parts premises preservation_parts
+may-preserve b ctx parts premises e f = record { parts_are = e; premises_are = f; may_stand = preservation-stands }
+
+pub seven-premises : (b : Contents) (ks : List ℕ) → meanings (book_concludes b) ks ≡ Some (conclusions_at moved_statement []) → 0 < length ks
+seven-premises b ks e =
+    let seven : length ks ≡ 7 = meanings-length (book_concludes b) ks (conclusions_at moved_statement []) e in
     omega arith

@@ -94,6 +94,17 @@ module _ (L : Language) where
         gives = (filling L name (nat L) end (zero L) (zero L) (L.var 0)).wants;
       }
 
+  -- the premises of a preservation of zero by the identity of numbers, from the end 0 of a name
+  abbrev moved : Claimed L
+  moved =
+      let same = lam L (nat L) (L.var 0) in
+      let end = eq0 L (L.var 0) in
+      record {
+        wants = [];
+        sides = [];
+        gives = (preservation L name (nat L) (nat L) same end (zero L) (zero L)).wants;
+      }
+
   -- The element of a type X that is a variable: of a context with X, that X is contractible, and an
   -- element of X.
 
@@ -205,4 +216,19 @@ filling_parts =
     ∷ ATree (zero trees)
     ∷ ATree (zero trees)
     ∷ ATree (trees.var 0)
+    ∷ []
+
+abbrev pub moved_statement : Statement
+moved_statement = stated none (moved patterns)
+
+-- the parts of that preservation
+abbrev pub preservation_parts : List Thing
+preservation_parts =
+    AContext (name trees)
+    ∷ ATree (nat trees)
+    ∷ ATree (nat trees)
+    ∷ ATree (lam trees (nat trees) (trees.var 0))
+    ∷ ATree (eq0 trees (trees.var 0))
+    ∷ ATree (zero trees)
+    ∷ ATree (zero trees)
     ∷ []

@@ -2,10 +2,10 @@
 
 ghost use Rattle.std.specs.Prelude.{◌≡◌, ◌∷◌, IfOk, map};
 
-use crate::filling;
 use crate::tests::judged;
+use crate::{filling, preservation};
 use book::{Book, NodeId};
-use kan_calls::{Derived, fill};
+use kan_calls::{Derived, fill, pres};
 use replay::Verdict;
 use std::alloc::{AllocError, Global};
 use std::test::Fail;
@@ -35,6 +35,22 @@ fn filled(alloc: Global) -> Result<Verdict, AllocError> {
 #[test]
 fn a_called_filling_is_right(rt: HostRuntime) -> Result<(), Fail> {
     let found = filled(rt.alloc())?;
+    assert!(rt; matches!(found, Verdict::Yes { roots: 4, .. }));
+    Ok(())
+}
+
+/// The verdict on the file of what a called preservation gives.
+fn preserved(alloc: Global) -> Result<Verdict, AllocError> {
+    let mut book = Book::new(alloc)?;
+    let call = preservation(&mut book)?;
+    let derived = pres(&mut book, call.ctx, &call.step)?;
+    let roots = roots_of(alloc, &derived)?;
+    Ok(judged(alloc, &book, roots.as_slice())?)
+}
+
+#[test]
+fn a_called_preservation_is_right(rt: HostRuntime) -> Result<(), Fail> {
+    let found = preserved(rt.alloc())?;
     assert!(rt; matches!(found, Verdict::Yes { roots: 4, .. }));
     Ok(())
 }

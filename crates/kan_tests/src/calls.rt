@@ -6,11 +6,15 @@ ghost use Rattle.trees.specs.Things.{meanings};
 ghost use Rattle.book.specs.Contents.{Contents};
 ghost use Rattle.book.specs.Shown.{book_means, book_concludes, Extends};
 ghost use Rattle.recipe_runner.specs.Running.{MayRun, most_made_by};
-ghost use Rattle.kan_fill.specs.Statements.{fill_statement};
+ghost use Rattle.kan_fill.specs.Statements.{fill_statement, pres_statement};
 ghost use Rattle.kan_calls.specs.Calls.{MayCall};
 ghost use Rattle.kan_tests.specs.Fillings.{earlier, filling_parts};
+ghost use Rattle.kan_tests.specs.Fillings.{preservation_parts};
 
-use crate::{FILL_PREMISES, FILL_PREMISES_GIVES, premises_are_derived};
+use crate::{
+    FILL_PREMISES, FILL_PREMISES_GIVES, PRES_PREMISES, PRES_PREMISES_GIVES,
+    moved_premises_are_derived, premises_are_derived,
+};
 use book::{Book, Few, NodeId};
 use kan_calls::{Derive, Kan};
 use recipe_runner::run;
@@ -97,5 +101,34 @@ pub fn filling(book: &mut Book) -> Result<Call, AllocError>
     premises_are_derived();
     let parts = parts(book)?;
     let nodes = given(book, FILL_PREMISES, FILL_PREMISES_GIVES)?;
+    Ok(call_of(parts, nodes.as_slice()))
+}
+
+/// The parts of a preservation of zero by the identity of numbers, from the end 0 of a name.
+fn moved_parts(book: &mut Book) -> Result<Few, AllocError>
+    ensures { IfOk result (λ parts.
+        meanings (book_means book.new) parts ≡ Some preservation_parts) }
+{
+    let empty = book.ctx_nil()?;
+    let ctx = book.ctx_name(empty)?;
+    let line = book.make(Op::Nat, &[])?;
+    let end = book.var(0)?;
+    let same = book.make(Op::Lam, &[line, end])?;
+    let face = book.make(Op::Eq0, &[end])?;
+    let base = book.make(Op::Zero, &[])?;
+    Ok(few_of(&[ctx, line, line, same, face, base, base]))
+}
+
+/// Such a preservation, as a call.
+///
+/// # Errors
+/// Only to be out of memory.
+pub fn preservation(book: &mut Book) -> Result<Call, AllocError>
+    ensures { IfOk result (λ call. MayCall pres_statement book.new call.ctx.0
+        call.step.parts call.step.premises preservation_parts) }
+{
+    moved_premises_are_derived();
+    let parts = moved_parts(book)?;
+    let nodes = given(book, PRES_PREMISES, PRES_PREMISES_GIVES)?;
     Ok(call_of(parts, nodes.as_slice()))
 }

@@ -5,7 +5,7 @@
 ghost use Rattle.recipes.specs.Derivations.{Derives};
 ghost use Rattle.kan_tests.specs.Fillings.{faces_statement, lines_statement, extended_statement};
 ghost use Rattle.kan_tests.specs.Fillings.{carried_statement, lifted_statement, earlier};
-ghost use Rattle.kan_tests.specs.Fillings.{identity_statement, premises_statement};
+ghost use Rattle.kan_tests.specs.Fillings.{identity_statement, premises_statement, moved_statement};
 
 /// The rows of a table, each on a line of its own however long.
 macro_rules! table {
@@ -20,8 +20,9 @@ mod fill_faces;
 mod fill_lines;
 mod fill_premises;
 mod pres_numbers;
+mod pres_premises;
 
-pub use calls::{Call, filling};
+pub use calls::{Call, filling, preservation};
 pub use contr_variable::{CONTR_VARIABLE, CONTR_VARIABLE_GIVES};
 pub use equiv_numbers::{EQUIV_NUMBERS, EQUIV_NUMBERS_GIVES};
 pub use equiv_variable::{EQUIV_VARIABLE, EQUIV_VARIABLE_GIVES};
@@ -29,6 +30,7 @@ pub use fill_faces::{FILL_FACES, FILL_FACES_GIVES};
 pub use fill_lines::{FILL_LINES, FILL_LINES_GIVES};
 pub use fill_premises::{FILL_PREMISES, FILL_PREMISES_GIVES};
 pub use pres_numbers::{PRES_NUMBERS, PRES_NUMBERS_GIVES};
+pub use pres_premises::{PRES_PREMISES, PRES_PREMISES_GIVES};
 
 #[cfg(test)]
 mod call_tests;
@@ -64,4 +66,9 @@ pub fn identity_is_equivalence()
 /// The premises of a filling that is called.
 pub fn premises_are_derived()
     ensures { Derives earlier premises_statement FILL_PREMISES.now FILL_PREMISES_GIVES.now }
+{}
+
+/// The premises of a preservation that is called.
+pub fn moved_premises_are_derived()
+    ensures { Derives earlier moved_statement PRES_PREMISES.now PRES_PREMISES_GIVES.now }
 {}
