@@ -1,7 +1,9 @@
 //! Texts whose trees are made by hand.
 
-use crate::{Code, Scope, ScopeFault, ScopeNames, resolve, resolve_exp};
+ghost use Rattle.resolver.specs.Resolved.{AreEarlier};
+
 use layout_lexer::{Span, Spans};
+use resolver::{Code, Scope, ScopeFault, ScopeNames, resolve, resolve_exp};
 use std::alloc::{AllocError, Global};
 use std::test::Fail;
 use syntax::{Def, Defs, Exp, Module, Tele, Teles};
@@ -13,7 +15,9 @@ const X: Span = Span { start: 0, end: 1 };
 
 const NAT: Span = Span { start: 2, end: 5 };
 
-fn scope(alloc: Global) -> Scope {
+fn scope(alloc: Global) -> Scope
+    ensures { AreEarlier result.next result.names }
+{
     Scope {
         names: ScopeNames::new(alloc),
         next: 3,
