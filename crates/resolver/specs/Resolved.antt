@@ -1,28 +1,32 @@
 -- What resolving answers.
-use Rattle.std.specs.Prelude.{◌≡◌, ◌<◌, ℕ, List, [], map, length, reverse, None}
+use Rattle.std.specs.Prelude.{◌≡◌, ◌<◌, ◌+◌, ℕ, List, [], ◌++◌, map, length, reverse, None}
 use Rattle.std.specs.List.{All}
 use Rattle.layout_lexer.specs.declared.token.Span.{Span}
 use Rattle.syntax.specs.Tree as text
 use Rattle.trees.specs.Trees.{Tree}
+use Rattle.trees.specs.Judgements.{Nil}
 use Rattle.translation.specs.declared.fault.ScopeFault.{ScopeFault}
 use Rattle.codes.specs.declared.code.Code.{Code}
 use Rattle.codes.specs.declared.code.CodeDef.{CodeDef, out-CodeDef}
 use Rattle.scopes.specs.declared.scope.ScopeName.{ScopeName}
 use Rattle.resolver.specs.declared.resolving.Codes.{Codes}
-use Rattle.translation.specs.Scopes.{Definition, Scope}
+use Rattle.translation.specs.Scopes.{Definition, Entry, Scope, context_of}
 use Rattle.translation.specs.Translated.{Translated, Refuses, judgements_of}
 use Rattle.translation.specs.Names.{Word}
-use Rattle.translation.specs.Texts.{Written, reading, block, defs}
-use Rattle.codes.specs.Codes.{meaning, definitions}
+use Rattle.translation.specs.Texts.{Written, reading, block, defs, word}
+use Rattle.codes.specs.Codes.{meaning, definitions, body_of}
 use Rattle.scopes.specs.Steps.{count_from}
 
--- The names of other modules, each with the body of its definition, where `bodies` gives that of
--- each number: as a text sees them, and as a code does.
-abbrev pub words : (ℕ → Tree) → List ScopeName → Scope Word
-words bodies names = map (λ n. Definition n.name (bodies n.def)) (reverse names)
+-- The names of other modules, each with the body that its number has in a code's scope.
+abbrev pub entry : Scope ℕ → ScopeName → Entry Word
+entry H n = Definition n.name (body_of H n.def)
 
-abbrev pub numbers : (ℕ → Tree) → List ScopeName → Scope ℕ
-numbers bodies names = map (λ n. Definition n.def (bodies n.def)) (reverse names)
+abbrev pub words : Scope ℕ → List ScopeName → Scope Word
+words H names = map (entry H) (reverse names)
+
+-- Codes of other modules stand in no context.
+abbrev pub IsTop : Scope ℕ → Type 0
+IsTop H = context_of H ≡ Nil
 
 -- The code holds the definitions that the text spells, in the order of their judgements, and
 -- numbers them in this order from `next` on.
@@ -36,16 +40,15 @@ pub record Holds (next : ℕ) {A B : Type 0} (spelt : Translated Word A) (code :
 
 pub record IsCode (bytes : List ℕ) (names : List ScopeName) (next : ℕ) (e : text.Tree) (c : Code)
     : Type 0 where
-  pub tree : (bodies : ℕ → Tree)
-      → (meaning c (numbers bodies names)).value
-      ≡ ((reading bytes e).term (words bodies names)).value
-  pub holds : (bodies : ℕ → Tree)
-      → Holds next ((reading bytes e).term (words bodies names)) (meaning c (numbers bodies names))
+  pub tree : (H : Scope ℕ) → IsTop H
+      → (meaning c H).value ≡ ((reading bytes e).term (words H names)).value
+  pub holds : (H : Scope ℕ) → IsTop H
+      → Holds next ((reading bytes e).term (words H names)) (meaning c H)
 
 abbrev pub IsFault : List ℕ → List ScopeName → text.Tree → ScopeFault → Type 0
 IsFault bytes names e fault =
-    (bodies : ℕ → Tree)
-    → Refuses fault ((reading bytes e).term (words bodies names)).refusal
+    (H : Scope ℕ) → IsTop H
+    → Refuses fault ((reading bytes e).term (words H names)).refusal
 
 -- the definitions of a module of the text, in this scope
 
@@ -59,17 +62,39 @@ names_of bytes m = map (λ d. d.name) (defs_of_module bytes m)
 abbrev pub defs_in : Codes → List CodeDef
 defs_in codes = codes.items.items
 
+-- what the definitions of a module bind, each name with its number
+abbrev pub bound_as : List ℕ → CodeDef → ScopeName
+bound_as bytes c = let d = out-CodeDef c in record { name = word bytes d.name; def = d.number }
+
+abbrev pub bound_by : List ℕ → List CodeDef → List ScopeName
+bound_by bytes = map (bound_as bytes)
+
+-- The scopes after so many definitions, from `next` on: the names in scope are those of before and
+-- those that are bound, and what had a number has it still.
+pub record Leaves (names bound : List ScopeName) (next count : ℕ) (H : Scope ℕ)
+    (spelt : Scope Word) (code : Scope ℕ) : Type 0 where
+  pub top : IsTop code
+  pub named : spelt ≡ words code (names ++ bound)
+  pub kept : (n : ℕ) → n < next → body_of code n ≡ body_of H n
+  pub below : All (λ n. n.def < next + count) bound
+
 pub record AreCodes (bytes : List ℕ) (names : List ScopeName) (next : ℕ) (m : text.Tree)
     (codes : Codes) : Type 0 where
   pub named : map (λ c. (out-CodeDef c).name) (defs_in codes) ≡ names_of bytes m
-  pub holds : (bodies : ℕ → Tree)
-      → Holds next (block bytes (defs_of_module bytes m) (words bodies names))
-      (definitions (defs_in codes) (numbers bodies names))
+  pub counted : (H : Scope ℕ) → IsTop H
+      → codes.next ≡ next + length (block bytes (defs_of_module bytes m) (words H names)).stated
+  pub holds : (H : Scope ℕ) → IsTop H
+      → Holds next (block bytes (defs_of_module bytes m) (words H names))
+      (definitions (defs_in codes) H)
+  pub leaves : (H : Scope ℕ) → IsTop H
+      → let spelt = block bytes (defs_of_module bytes m) (words H names) in
+      Leaves names (bound_by bytes (defs_in codes)) next (length spelt.stated) H
+      spelt.value (definitions (defs_in codes) H).value
 
 abbrev pub IsFaultOf : List ℕ → List ScopeName → text.Tree → ScopeFault → Type 0
 IsFaultOf bytes names m fault =
-    (bodies : ℕ → Tree)
-    → Refuses fault (block bytes (defs_of_module bytes m) (words bodies names)).refusal
+    (H : Scope ℕ) → IsTop H
+    → Refuses fault (block bytes (defs_of_module bytes m) (words H names)).refusal
 
 -- the numbers in scope are those of earlier definitions
 abbrev pub AreEarlier : ℕ → List ScopeName → Type 0

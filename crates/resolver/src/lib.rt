@@ -14,5 +14,5 @@ pub use codes::{
     Binder, Code, CodeDef, Element, Equation, Formula, LineSide, Opened, PairSide, Side,
 };
 pub use resolving::{Codes, resolve, resolve_exp};
-pub use scopes::{Scope, ScopeName, ScopeNames};
+pub use scopes::{Name, Scope, ScopeName, ScopeNames};
 pub use translation::ScopeFault;

@@ -11,28 +11,34 @@ use std::alloc::{AllocError, Global};
 use syntax::{Exp, Module};
 use translation::ScopeFault;
 
-/// Definitions of the top level, in order.
+/// Definitions of the top level, in order, and the number of the definition after them.
 #[derive(Drop)]
 pub struct Codes {
     items: Vec<CodeDef>,
+    next: u32,
 }
 
 impl Codes {
     /// No definitions, which takes no memory.
     pub fn new(alloc: Global) -> Codes
-        ensures { defs_in result ≡ [] }
+        ensures items { defs_in result ≡ [] }
+        ensures next { result.next ≡ 0 }
     {
         Codes {
             items: Vec::new(alloc),
+            next: 0,
         }
     }
 
-    /// Appends a definition.
-    pub fn push(&mut self, def: CodeDef) -> Result<(), AllocError>
-        ensures ok { OnOk result (defs_in self.new ≡ defs_in self.old ++ def ∷ []) }
-        ensures err { OnErr result (defs_in self.new ≡ defs_in self.old) }
+    /// Appends the definitions that come next.
+    pub fn append(&mut self, mut other: Codes) -> Result<(), AllocError>
+        ensures ok { OnOk result ((self.new.next ≡ other.next) ×
+            (defs_in self.new ≡ defs_in self.old ++ defs_in other)) }
+        ensures err { OnErr result
+            ((defs_in self.new ≡ defs_in self.old) × (self.new.next ≡ self.old.next)) }
     {
-        self.items.push(def)?;
+        self.items.append(&mut other.items)?;
+        self.next = other.next;
         Ok(())
     }
 
@@ -41,6 +47,13 @@ impl Codes {
         ensures { result.now ≡ defs_in self.now }
     {
         &self.items
+    }
+
+    /// The number of the next definition.
+    pub fn next(&self) -> u32
+        ensures { result ≡ self.now.next }
+    {
+        self.next
     }
 }
 
@@ -74,7 +87,10 @@ pub fn resolve(
         return Err(ScopeFault::Memory);
     };
     match place.refusal() {
-        None => Ok(Codes { items }),
+        None => Ok(Codes {
+            items,
+            next: place.next(),
+        }),
         Some(refusal) => Err(refusal.fault()),
     }
 }

@@ -18,12 +18,12 @@ use Rattle.translation.specs.Names.{Word, is_nameless}
 use Rattle.translation.specs.Texts.{Written, word, once, block_after}
 use Rattle.codes.specs.Codes.{definition, definitions}
 use Rattle.codes.specs.declared.code.CodeDef.{CodeDef}
-use Rattle.codes.proofs.Logs.{then_same, then_assoc, then_done, earlier_none}
+use Rattle.codes.proofs.Logs.{then_same, then_assoc, then_done, earlier_none, length_append}
 use Rattle.scopes.specs.declared.names.Binding.TheVariants as binding
 use Rattle.scopes.specs.declared.names.Found.{Found}
 use Rattle.scopes.specs.declared.names.Found.TheVariants as found
 use Rattle.scopes.specs.Finding.{Named, nearest, find, bound, past}
-use Rattle.scopes.specs.Steps.{State, Progress, Agree, Moves, Same, Moving, Keeps, Resolves, Extends, Binds, Opens, Defines, AreEarlier, bound_to, noted, checked, is_newer}
+use Rattle.scopes.specs.Steps.{State, Progress, Agree, Moves, Same, Moving, Keeps, Resolves, Extends, Binds, Opens, Defines, Adds, after_defs, AreEarlier, bound_to, noted, checked, is_newer}
 use Rattle.scopes.proofs.Agreeing.{agree_definition, agree_after, IsFoundEarlier, nearest_earlier}
 use Rattle.scopes.proofs.Moving.{moves_done, moves_then, moves_same, moving_then, moving_done, keeps_then, keeps_same}
 use Rattle.scopes.proofs.Binders.{extends_then, extends_kept, keeps_cut}
@@ -55,12 +55,48 @@ judged c d p q e f =
     ap (λ x. judgements_of {N = ℕ} (record { name = 0; context = x; type = q.0; body = q.1 } ∷ [])) e
     ∙ ap (λ r. judgements_of {N = ℕ} (record { name = 0; context = c; type = r.0; body = r.1 } ∷ [])) f
 
+-- definitions that are added
+
+adds_none : (G : Scope Word) (H : Scope ℕ) → Adds G H G H
+adds_none G H = record { words = []; numbers = []; bodies = []; named = refl; numbered = refl; spelt = refl; code = refl }
+
+adds_one : (G : Scope Word) (H : Scope ℕ) (x : Word) (n : ℕ) (t u : Tree) → u ≡ t → Adds G H (Definition x t ∷ G) (Definition n u ∷ H)
+adds_one G H x n t u e = record {
+  words = x ∷ [];
+  numbers = n ∷ [];
+  bodies = t ∷ [];
+  named = refl;
+  numbered = refl;
+  spelt = refl;
+  code = ap (λ b. Definition n b ∷ H) e;
+}
+
+after_append : {N : Type 0} (xs ys : List N) (ts us : List Tree) (G : Scope N) → length xs ≡ length ts
+    → after_defs (xs ++ ys) (ts ++ us) G ≡ after_defs ys us (after_defs xs ts G)
+after_append [] ys [] us G e = refl
+after_append [] ys (t ∷ ts) us G e = absurd (omega arith)
+after_append (x ∷ xs) ys [] us G e = absurd (omega arith)
+after_append (x ∷ xs) ys (t ∷ ts) us G e = after_append xs ys ts us (Definition x t ∷ G) (omega arith)
+
+adds_then : (G : Scope Word) (H : Scope ℕ) (K : Scope Word) (L : Scope ℕ) (G' : Scope Word) (H' : Scope ℕ)
+    → Adds G H K L → Adds K L G' H' → Adds G H G' H'
+adds_then G H K L G' H' a b = record {
+  words = a.words ++ b.words;
+  numbers = a.numbers ++ b.numbers;
+  bodies = a.bodies ++ b.bodies;
+  named = let d = length_append a.words b.words in let e = length_append a.bodies b.bodies in let x = a.named in let y = b.named in omega arith;
+  numbered = let d = length_append a.numbers b.numbers in let e = length_append a.bodies b.bodies in let x = a.numbered in let y = b.numbered in omega arith;
+  spelt = b.spelt ∙ ap (after_defs b.words b.bodies) a.spelt ∙ sym (after_append a.words b.words a.bodies b.bodies G a.named);
+  code = b.code ∙ ap (after_defs b.numbers b.bodies) a.code ∙ sym (after_append a.numbers b.numbers a.bodies b.bodies H a.numbered);
+}
+
 -- The definition takes the next number.
 pub defines : (s t : State) (m : Means Word (Tree × Tree)) (n : Means ℕ (Tree × Tree)) → Resolves s t m n
     → Defines s (record t { so_far = record t.so_far { next = suc t.so_far.next } }) t.so_far.next m (define t.so_far.next n)
 defines s t m n h = record {
   keeps = record { names = h.keeps.names; grows = let g = h.keeps.grows in omega arith };
   later = h.keeps.grows;
+  adds = λ x G H a. adds_one G H x t.so_far.next (m G).value.1 (n H).value.1 (ap (λ p. p.1) (h.moving.moves G H a).value);
   moves = λ x G H a.
       let number = t.so_far.next in
       let last : Progress = record t.so_far { next = suc number } in
@@ -114,6 +150,7 @@ definitions_push (d ∷ ds) c H =
 pub opens_none : (bytes : List ℕ) (s : State) → Opens s s (block_after bytes [] []) (definitions [])
 opens_none bytes s = record {
   extends = extends_kept s s (keeps_same s);
+  adds = λ G H a. adds_none G H;
   moves = λ G H a. moves_done s.so_far (Agree s) G H a;
 }
 
@@ -152,6 +189,13 @@ opens_more bytes s t u ds d cs c number b first def same =
     record {
       extends = extends_then s t new first.extends (extends_then t u new (extends_kept t u def.keeps)
           (record { bound = record { word = w; binding = binding.Definition number } ∷ []; names = refl; grows = kept.grows }));
+      adds = λ G H a.
+          let K = (block_after bytes [] ds G).value in
+          let L = (definitions cs H).value in
+          let last_one = def.adds w K L (first.moves G H a).value in
+          subst (λ x. Adds G H x.value (definitions (cs ++ c ∷ []) H).value) (block_push bytes [] ds d G)
+          (subst (λ y. Adds G H (define w d.means K).value y.value) (definitions_push cs c H)
+          (adds_then G H K L (define w d.means K).value (definition c L).value (first.adds G H a) last_one));
       moves = λ G H a. moves_same s.so_far last (Agree new) _ _ _ _ (block_push bytes [] ds d G) (definitions_push cs c H)
           (moves_then s.so_far t.so_far last (Agree t) (Agree new) (block_after bytes [] ds G) (definitions cs H)
           (λ K. define w d.means K >>= λ L. once bytes seen d.name >>= λ _. done L) (λ L. definition c L)

@@ -1,118 +1,61 @@
 -- The names of other modules stand for the same in the text and in the code.
-use Rattle.std.proofs.Common.{◌≡◌, ◌+◌, ◌<◌, ◌≤◌, ◌==◌, ℕ, zero, suc, Bool, true, false, List, [], ◌∷◌, ◌++◌, map, length, refl, sym, ap, ◌∙◌, arith, subst, bytes_eq, codes, if◌then◌else◌, eqb-true}
-use Rattle.trees.specs.Trees.{Tree, Var}
+use Rattle.std.proofs.Common.{◌≡◌, ℕ, Bool, true, false, List, [], ◌∷◌, map, refl, sym, ◌∙◌, bytes_eq, codes, if◌then◌else◌}
+use Rattle.trees.specs.Trees.{Tree}
 use Rattle.trees.specs.Judgements.{Nil}
-use Rattle.translation.specs.declared.fault.Refusal.{Refusal}
 use Rattle.translation.specs.Scopes.{Scope, Definition, context_of}
-use Rattle.translation.specs.Names.{Word, Meaning, Term, Index, BuiltInName, Nothing, nearest as nearest_meaning, built_in_name}
+use Rattle.translation.specs.Names.{Word, Meaning, Term, BuiltInName, Nothing, nearest as nearest_meaning, built_in_name}
 use Rattle.translation.specs.declared.built_in.BuiltIn.{BuiltIn}
 use Rattle.translation.specs.declared.built_in.BuiltIn.TheVariants as builtin
 use Rattle.codes.specs.Codes.{body_of}
-use Rattle.scopes.specs.declared.names.Binding.{Binding}
-use Rattle.scopes.specs.declared.names.Binding.TheVariants as binding
-use Rattle.scopes.specs.declared.names.Found.{Found}
 use Rattle.scopes.specs.declared.names.Found.TheVariants as found
 use Rattle.scopes.specs.declared.scope.ScopeName.{ScopeName}
-use Rattle.scopes.specs.Finding.{Named, nearest, bound, past, outermost}
+use Rattle.scopes.specs.Finding.{nearest, outermost}
 use Rattle.scopes.specs.Steps.{State, Progress, Agree, meant, AreEarlier, named_of}
 
-spelt : (ℕ → Tree) → List ScopeName → Scope Word
-spelt bodies = map (λ n. Definition n.name (bodies n.def))
-
-coded : (ℕ → Tree) → List ScopeName → Scope ℕ
-coded bodies = map (λ n. Definition n.def (bodies n.def))
-
--- a definition that is found has its body
-Known : (ℕ → Tree) → Scope ℕ → Found → Type 0
-Known bodies H (found.Definition n) = body_of H n ≡ bodies n
-Known bodies H _ = Unit {0}
-
-known_outside : (bodies : ℕ → Tree) (n : ℕ) (H : Scope ℕ) (f : Found) → Known bodies H f → Known bodies (Definition n (bodies n) ∷ H) f
-unfolding Known
-known_outside bodies n H (found.Variable k) h = tt
-known_outside bodies n H (found.Interval k) h = tt
-known_outside bodies n H (found.Definition m) h =
-    here (n == m) refl
-  where
-    here : (v : Bool) → (n == m) ≡ v → (if v then bodies n else body_of H m) ≡ bodies m
-    here true e = ap bodies (eqb-true n m e)
-    here false e = h
-known_outside bodies n H (found.BuiltIn b) h = tt
-known_outside bodies n H found.Nothing h = tt
-
-known_itself : (bodies : ℕ → Tree) (n : ℕ) (H : Scope ℕ) → Known bodies (Definition n (bodies n) ∷ H) (found.Definition n)
-unfolding Known
-known_itself bodies n H = here (n == n) refl
-  where
-    here : (v : Bool) → (n == n) ≡ v → (if v then bodies n else body_of H n) ≡ bodies n
-    here true e = refl
-    here false e = absurd (grind arith)
-
-known_built_in : (bodies : ℕ → Tree) (H : Scope ℕ) (m : Meaning) → Known bodies H (outermost m)
-unfolding Known
-known_built_in bodies H (Term t) = tt
-known_built_in bodies H (Index k) = tt
-known_built_in bodies H (BuiltInName b) = tt
-known_built_in bodies H Nothing = tt
-
-known : (bodies : ℕ → Tree) (ns : List ScopeName) (x : Word) → Known bodies (coded bodies ns) (nearest (map named_of ns) x)
-unfolding coded
-known bodies [] x = known_built_in bodies [] (built_in_name x)
-known bodies (n ∷ ns) x =
-    elim (bytes_eq n.name x) as (λ v. Known bodies (Definition n.def (bodies n.def) ∷ coded bodies ns) (if v then found.Definition n.def else nearest (map named_of ns) x)) [
-      | true ↦ known_itself bodies n.def (coded bodies ns)
-      | false ↦ known_outside bodies n.def (coded bodies ns) _ (known bodies ns x)
-    ]
-
-meant_known : (bodies : ℕ → Tree) (H K : Scope ℕ) (f : Found) → Known bodies H f → Known bodies K f → meant H f ≡ meant K f
-unfolding Known
-meant_known bodies H K (found.Variable k) h i = refl
-meant_known bodies H K (found.Interval k) h i = refl
-meant_known bodies H K (found.Definition n) h i = ap Term (h ∙ sym i)
-meant_known bodies H K (found.BuiltIn b) h i = refl
-meant_known bodies H K found.Nothing h i = refl
-
 -- a word that stands for something built in, or for nothing
-IsOutermost : Meaning → Type 0
-IsOutermost m = m ≡ meant [] (outermost m)
+IsOutermost : Scope ℕ → Meaning → Type 0
+IsOutermost H m = m ≡ meant H (outermost m)
 
-outermost_if : (v : Bool) (b : BuiltIn) (m : Meaning) → IsOutermost m → IsOutermost (if v then BuiltInName b else m)
+outermost_if : (H : Scope ℕ) (v : Bool) (b : BuiltIn) (m : Meaning) → IsOutermost H m → IsOutermost H (if v then BuiltInName b else m)
 unfolding IsOutermost
-outermost_if true b m h = refl
-outermost_if false b m h = h
+outermost_if H true b m h = refl
+outermost_if H false b m h = h
 
-built_in : (x : Word) → IsOutermost (built_in_name x)
+built_in : (H : Scope ℕ) (x : Word) → IsOutermost H (built_in_name x)
 unfolding IsOutermost
-built_in x =
+built_in H x =
     let last = if bytes_eq x (codes "natrec") then BuiltInName builtin.NatRec else Nothing in
     let third = if bytes_eq x (codes "suc") then BuiltInName builtin.Suc else last in
     let second = if bytes_eq x (codes "zero") then BuiltInName builtin.Zero else third in
-    outermost_if (bytes_eq x (codes "nat")) builtin.Nat second
-    (outermost_if (bytes_eq x (codes "zero")) builtin.Zero third
-    (outermost_if (bytes_eq x (codes "suc")) builtin.Suc last
-    (outermost_if (bytes_eq x (codes "natrec")) builtin.NatRec Nothing refl)))
+    outermost_if H (bytes_eq x (codes "nat")) builtin.Nat second
+    (outermost_if H (bytes_eq x (codes "zero")) builtin.Zero third
+    (outermost_if H (bytes_eq x (codes "suc")) builtin.Suc last
+    (outermost_if H (bytes_eq x (codes "natrec")) builtin.NatRec Nothing refl)))
 
-same_words : (bodies : ℕ → Tree) (ns : List ScopeName) (x : Word) → nearest_meaning (spelt bodies ns) x ≡ meant (coded bodies ns) (nearest (map named_of ns) x)
-unfolding spelt coded IsOutermost Known
-same_words bodies [] x = built_in x
-same_words bodies (n ∷ ns) x =
-    let H = coded bodies ns in
-    let K = Definition n.def (bodies n.def) ∷ H in
-    elim (bytes_eq n.name x) as (λ v. (if v then Term (bodies n.def) else nearest_meaning (spelt bodies ns) x) ≡ meant K (if v then found.Definition n.def else nearest (map named_of ns) x)) [
-      | true ↦ ap Term (sym (known_itself bodies n.def H))
-      | false ↦ same_words bodies ns x ∙ meant_known bodies H K _ (known bodies ns x) (known_outside bodies n.def H _ (known bodies ns x))
-    ]
+module _ (H : Scope ℕ) where
+  -- each name with the body that its number has
+  spelt : List ScopeName → Scope Word
+  spelt = map (λ n. Definition n.name (body_of H n.def))
 
-same_context : (bodies : ℕ → Tree) (ns : List ScopeName) → context_of (coded bodies ns) ≡ context_of (spelt bodies ns)
-unfolding spelt coded
-same_context bodies [] = refl
-same_context bodies (n ∷ ns) = same_context bodies ns
+  same_words : (ns : List ScopeName) (x : Word) → nearest_meaning (spelt ns) x ≡ meant H (nearest (map named_of ns) x)
+  unfolding spelt IsOutermost
+  same_words [] x = built_in H x
+  same_words (n ∷ ns) x =
+      elim (bytes_eq n.name x) as (λ v. (if v then Term (body_of H n.def) else nearest_meaning (spelt ns) x) ≡ meant H (if v then found.Definition n.def else nearest (map named_of ns) x)) [
+        | true ↦ refl
+        | false ↦ same_words ns x
+      ]
 
-pub agree_start : (bodies : ℕ → Tree) (ns : List ScopeName) (p : Progress) → AreEarlier p.next (map named_of ns)
-    → Agree (record { names = map named_of ns; so_far = p }) (map (λ n. Definition n.name (bodies n.def)) ns) (map (λ n. Definition n.def (bodies n.def)) ns)
-unfolding spelt coded
-agree_start bodies ns p h = record {
-  contexts = same_context bodies ns;
-  words = same_words bodies ns;
-  definitions = h;
-}
+  no_context : (ns : List ScopeName) → context_of (spelt ns) ≡ Nil
+  unfolding spelt
+  no_context [] = refl
+  no_context (n ∷ ns) = no_context ns
+
+  pub agree_start : context_of H ≡ Nil → (ns : List ScopeName) (p : Progress) → AreEarlier p.next (map named_of ns)
+      → Agree (record { names = map named_of ns; so_far = p }) (map (λ n. Definition n.name (body_of H n.def)) ns) H
+  unfolding spelt
+  agree_start top ns p h = record {
+    contexts = top ∙ sym (no_context ns);
+    words = same_words ns;
+    definitions = h;
+  }

@@ -6,7 +6,7 @@ use Rattle.trees.specs.Trees.{Tree, Var}
 use Rattle.translation.specs.declared.fault.Cause.{Cause}
 use Rattle.translation.specs.declared.fault.Cause.TheVariants.{Twice}
 use Rattle.translation.specs.declared.fault.Refusal.{Refusal}
-use Rattle.translation.specs.Scopes.{Scope, context_of}
+use Rattle.translation.specs.Scopes.{Scope, Definition, context_of}
 use Rattle.translation.specs.Translated.{Translated, judgements_of, earlier}
 use Rattle.translation.specs.Forms.{Means, Binder, under, define}
 use Rattle.translation.specs.Names.{Word, Meaning, Term, Index, BuiltInName, Nothing}
@@ -117,10 +117,28 @@ pub record Binds (old new : State) (spelt : List (Binder Word)) (code : List (Bi
   pub terms : BindsOver Tree old new spelt code
   pub definitions : BindsOver (Tree × Tree) old new spelt code
 
+-- the scope after definitions of these names and bodies, in order
+abbrev pub after_defs : {N : Type 0} → List N → List Tree → Scope N → Scope N
+after_defs [] ts G = G
+after_defs (x ∷ xs) [] G = G
+after_defs (x ∷ xs) (t ∷ ts) G = after_defs xs ts (Definition x t ∷ G)
+
+-- Definitions were added, whose bodies are the same in the text and in the code.
+pub record Adds (G : Scope Word) (H : Scope ℕ) (G' : Scope Word) (H' : Scope ℕ) : Type 0 where
+  pub words : List Word
+  pub numbers : List ℕ
+  pub bodies : List Tree
+  pub named : length words ≡ length bodies
+  pub numbered : length numbers ≡ length bodies
+  pub spelt : G' ≡ after_defs words bodies G
+  pub code : H' ≡ after_defs numbers bodies H
+
 -- A text and a code that give a scope each: names are bound that agree there.
 pub record Opens (old new : State) (spelt : Means Word (Scope Word)) (code : Means ℕ (Scope ℕ))
     : Type 0 where
   pub extends : Extends old new
+  pub adds : (G : Scope Word) (H : Scope ℕ) → Agree old G H
+      → Adds G H (spelt G).value (code H).value
   pub moves : (G : Scope Word) (H : Scope ℕ) → Agree old G H
       → Moves old.so_far new.so_far (Agree new) (spelt G) (code H)
 
@@ -129,6 +147,8 @@ pub record Defines (old new : State) (number : ℕ) (spelt : Means Word (Tree ×
     (code : Means ℕ (Scope ℕ)) : Type 0 where
   pub keeps : Keeps old new
   pub later : old.so_far.next ≤ number
+  pub adds : (x : Word) (G : Scope Word) (H : Scope ℕ) → Agree old G H
+      → Adds G H (define x spelt G).value (code H).value
   pub moves : (x : Word) (G : Scope Word) (H : Scope ℕ) → Agree old G H
       → Moves old.so_far new.so_far (Agree (bound_to new x (binding.Definition number)))
       (define x spelt G) (code H)

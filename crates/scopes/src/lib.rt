@@ -10,7 +10,7 @@ mod scope;
 
 pub use names::{Binding, Found};
 pub use place::Place;
-pub use scope::{Scope, ScopeName, ScopeNames};
+pub use scope::{Name, Scope, ScopeName, ScopeNames};
 
 #[cfg(test)]
 mod tests;

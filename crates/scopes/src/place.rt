@@ -40,7 +40,7 @@ impl<'a> Place<'a> {
     {
         let mut names = Names::new(alloc);
         for name in scope.names.as_slice() {
-            names.bind(name.name.as_str().as_bytes(), Binding::Definition(name.def))?;
+            names.bind(name.name.as_bytes(), Binding::Definition(name.def))?;
         }
         Ok(Place {
             names,

@@ -1,15 +1,46 @@
 //! What a text may name of other modules.
 
-ghost use Rattle.std.specs.Prelude.{◌≡◌, [], ◌∷◌, ◌++◌, OnOk, OnErr};
+ghost use Rattle.std.specs.Prelude.{◌≡◌, [], ◌∷◌, ◌++◌, IfOk, OnOk, OnErr};
 
-use layout_lexer::Text;
 use std::alloc::{AllocError, Global};
 use std::marker::Model;
+
+/// A name, by its bytes.
+#[derive(Drop)]
+pub struct Name {
+    held: Vec<u8>,
+}
+
+impl Model for Name {
+    ghost use Rattle.std.specs.Prelude.{List, ℕ};
+
+    ghost Value = { List ℕ };
+
+    ghost view = { λ a. a.held.items };
+}
+
+impl Name {
+    /// A copy of the bytes.
+    pub fn new(alloc: Global, bytes: &[u8]) -> Result<Name, AllocError>
+        ensures { IfOk result (λ copy. copy ≡ bytes.now) }
+    {
+        let mut held = Vec::new(alloc);
+        held.extend_from_slice(bytes)?;
+        Ok(Name { held })
+    }
+
+    /// The bytes, lent.
+    pub fn as_bytes(&self) -> &[u8]
+        ensures { result.now ≡ self.now }
+    {
+        &self.held
+    }
+}
 
 /// A name with the number of the definition that it stands for.
 #[derive(Drop)]
 pub struct ScopeName {
-    pub name: Text,
+    pub name: Name,
     pub def: u32,
 }
 

@@ -1,14 +1,13 @@
 //! Names as they are bound, found and taken away.
 
-use crate::{Binding, Found, Place, Scope, ScopeName, ScopeNames};
-use layout_lexer::Text;
+use crate::{Binding, Found, Name, Place, Scope, ScopeName, ScopeNames};
 use std::test::Fail;
 use translation::{BuiltIn, Cause, Refusal};
 
 #[test]
 fn the_newest_name_is_found(rt: HostRuntime) -> Result<(), Fail> {
     let mut names = ScopeNames::new(rt.alloc());
-    let name = Text::new(rt.alloc(), "zero")?;
+    let name = Name::new(rt.alloc(), b"zero")?;
     names.push(ScopeName { name, def: 3 })?;
     let scope = Scope { names, next: 7 };
     let mut place = Place::new(rt.alloc(), &scope)?;

@@ -4,7 +4,7 @@ use Rattle.resolver.proofs.resolving.resolve.Goals as goal
 
 pub returns-in-None-clause-ok : goal.returns-in-None-clause-ok
 returns-in-None-clause-ok c =
-    codes_hold c.args.scope.now.names c.args.scope.now.next c.args.bytes.now _ _ c.args.module.now _ _ c.requires c.in-Ok.ensures c.as_slice.ensures c.in-Ok-block.ensures.opens c.in-Ok-block.ensures.named (sym c.refusal.ensures ∙ c.in-None.is)
+    codes_hold c.args.scope.now.names c.args.scope.now.next c.args.bytes.now _ _ c.args.module.now _ _ c.requires c.in-Ok.ensures c.as_slice.ensures c.in-Ok-block.ensures.opens c.in-Ok-block.ensures.named (sym c.refusal.ensures ∙ c.in-None.is) c.next.ensures
 
 pub returns-clause-err : goal.returns-clause-err
 returns-clause-err c =
