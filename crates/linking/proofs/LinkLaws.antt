@@ -1,0 +1,259 @@
+-- One module after another.
+use Rattle.std.proofs.Common.{◌≡◌, ◌<◌, ◌≤◌, ◌+◌, ℕ, zero, suc, Bool, List, [], ◌∷◌, ◌++◌, map, length, take, reverse, get_or, bytes_eq, refl, sym, ◌∙◌, ap, subst, arith, append_assoc, None}
+use Rattle.std.specs.List.{All, flat_map, list_any}
+use Rattle.std.proofs.lemmas.List.{reverse-append, length-append, length-map, length-reverse}
+use Rattle.std.proofs.lemmas.List.Concat.{flat_map-append}
+use Rattle.syntax.specs.View.{module_of}
+use Rattle.trees.specs.Judgements.{Judgement}
+use Rattle.translation.specs.declared.fault.ScopeFault.{ScopeFault}
+use Rattle.translation.specs.Scopes.{Scope, context_of}
+use Rattle.translation.specs.Translated.{Translated, Stated, Refuses, done, ◌>>=◌, judgements_of}
+use Rattle.translation.specs.Names.{Word}
+use Rattle.translation.specs.Texts.{Written, block}
+use Rattle.codes.specs.declared.code.CodeDef.{CodeDef, out-CodeDef}
+use Rattle.codes.specs.Codes.{body_of, definition, definitions}
+use Rattle.codes.proofs.Logs.{append_empty, judgements_append, map_append, then_assoc, then_same}
+use Rattle.scopes.specs.declared.scope.Scope.{Scope as ScopeOf}
+use Rattle.scopes.specs.declared.scope.ScopeName.{ScopeName}
+use Rattle.scopes.specs.Steps.{count_from}
+use Rattle.scopes.proofs.Moving.{count_append}
+use Rattle.module_texts.specs.declared.text.ModuleText.{ModuleText}
+use Rattle.module_texts.specs.Texts.{name_of, imports_of}
+use Rattle.resolver.specs.declared.resolving.Codes.{Codes}
+use Rattle.resolver.specs.Resolved.{AreCodes, AreEarlier, Holds, IsFaultOf, IsTop, Leaves, bound_as, bound_by, entry, words, defs_in as codes_in}
+use Rattle.resolver.proofs.Leaving.{words_append, words_kept}
+use Rattle.linking.specs.declared.known.Known.{Known as Kept}
+use Rattle.linking.specs.declared.linked.Linker.{Linker}
+use Rattle.linking.specs.Modules.{Known, AreFine, RefusedFirst, and_known, defs_in, judgements, known_as, meaning_after, meanings, meanings_after, reached}
+use Rattle.linking.specs.Reaching.{Stand, Sees, are_among, names_of}
+use Rattle.linking.specs.Linked.{HasLinked, IsLinked, Keeps, known_after, meaning_of_next}
+use Rattle.linking.proofs.ReachLaws.{all_append, all_one, names_push}
+
+counted : (n k : ℕ) → length (count_from n k) ≡ n
+counted zero k = refl
+counted (suc n) k = ap (λ m. suc m) (counted n (suc k))
+
+take_front : {A : Type 0} (xs ys : List A) (n : ℕ) → n ≡ length xs → take n (xs ++ ys) ≡ xs
+take_front [] ys zero e = refl
+take_front [] ys (suc n) e = absurd (omega arith)
+take_front (x ∷ xs) ys zero e = absurd (omega arith)
+take_front (x ∷ xs) ys (suc n) e = ap (λ zs. x ∷ zs) (take_front xs ys n (omega arith))
+
+-- one module more
+
+known_more : (known : List Known) (xs : List ModuleText) (x : ModuleText) → known_after known (xs ++ x ∷ []) ≡ and_known (known_after known xs) x
+known_more known [] x = refl
+known_more known (y ∷ ys) x = known_more (and_known known y) ys x
+
+meanings_more : (known : List Known) (xs : List ModuleText) (x : ModuleText) → meanings_after known (xs ++ x ∷ []) ≡ meanings_after known xs ++ meaning_after (known_after known xs) x ∷ []
+meanings_more known [] x = refl
+meanings_more known (y ∷ ys) x = ap (λ ms. meaning_after known y ∷ ms) (meanings_more (and_known known y) ys x)
+
+names_known : (known : List Known) (xs : List ModuleText) → names_of (known_after known xs) ≡ names_of known ++ map name_of xs
+names_known known [] = sym (append_empty (names_of known))
+names_known known (x ∷ xs) =
+    names_known (and_known known x) xs ∙ ap (λ ns. ns ++ map name_of xs) (names_push (known_as x (meaning_after known x).value) known)
+    ∙ append_assoc (names_of known) (name_of x ∷ []) (map name_of xs)
+
+definitions_append : (cs ds : List CodeDef) (H : Scope ℕ) → definitions (cs ++ ds) H ≡ (definitions cs H >>= λ K. definitions ds K)
+definitions_append [] ds H = refl
+definitions_append (c ∷ cs) ds H =
+    then_same (definition c H) (λ K. definitions (cs ++ ds) K) (λ K. definitions cs K >>= λ L. definitions ds L) (definitions_append cs ds (definition c H).value)
+    ∙ sym (then_assoc (definition c H) (λ K. definitions cs K) (λ K. definitions ds K))
+
+length_meanings : (known : List Known) (xs : List ModuleText) → length (meanings_after known xs) ≡ length xs
+length_meanings known [] = refl
+length_meanings known (x ∷ xs) = let h = length_meanings (and_known known x) xs in omega arith
+
+-- what is kept stands for the same as definitions are added
+stand_kept : (H K : Scope ℕ) (next more : ℕ) (ms : List Known) (ks : List Kept) → ((n : ℕ) → n < next → body_of K n ≡ body_of H n) → next ≤ more
+    → Stand H next ms ks → Stand K more ms ks
+stand_kept H K next more [] [] kept l h = tt
+stand_kept H K next more [] (k ∷ ks) kept l h = absurd h
+stand_kept H K next more (m ∷ ms) [] kept l h = absurd h
+stand_kept H K next more (m ∷ ms) (k ∷ ks) kept l h =
+    (h.0, h.1 ∙ words_kept H K next k.names kept h.2, (λ i d within. let below = h.2 i d within in omega arith), stand_kept H K next more ms ks kept l h.3)
+
+pub starts : (s : Linker) → codes_in s.codes ≡ [] → s.codes.next ≡ 0 → s.known.items ≡ [] → HasLinked [] s
+starts s none next known = record {
+  linked = record {
+    fine = λ k d l. absurd (omega arith);
+    judgements_are = ap (λ cs. judgements_of (definitions cs []).stated) none;
+    numbered = ap (λ cs. map (λ (d : Stated ℕ). d.name) (definitions cs []).stated) none ∙ sym (ap (λ cs. count_from (length (definitions cs []).stated) 0) none);
+    next_is = next ∙ sym (ap (λ cs. length (definitions cs []).stated) none);
+  };
+  top = ap (λ cs. context_of (definitions cs []).value) none;
+  stand = subst (λ ks. Stand (definitions (codes_in s.codes) []).value s.codes.next [] (reverse ks)) (sym known) tt;
+}
+
+module _ (before : List ModuleText) (x : ModuleText) (s : Linker) (h : HasLinked before s) where
+  ms : List Known
+  ms = known_after [] before
+
+  pub wants : (flags : List Bool) → flags ≡ are_among (imports_of x) (map name_of before) → flags ≡ are_among (imports_of x) (names_of (known_after [] before))
+  wants flags e = e ∙ ap (are_among (imports_of x)) (sym (names_known [] before))
+
+  module _ (flags : List Bool) (scope : ScopeOf) (are : flags ≡ are_among (imports_of x) (map name_of before)) (sees : Sees s.known.items flags s.codes.next scope) where
+    H : Scope ℕ
+    H = (definitions (codes_in s.codes) []).value
+
+    seen : (words (definitions (codes_in s.codes) []).value scope.names ≡ reached (known_after [] before) (imports_of x)) × AreEarlier s.codes.next scope.names
+    seen = sees.sees (definitions (codes_in s.codes) []).value (known_after [] before) (imports_of x) h.stand (wants flags are)
+
+    pub scope_earlier : AreEarlier scope.next scope.names
+    scope_earlier = subst (λ n. AreEarlier n scope.names) (sym sees.next_is) seen.1
+
+    spelt : Translated Word (Scope Word)
+    spelt = block x.bytes.items (defs_in x) (words H scope.names)
+
+    is_meaning : block x.bytes.items (defs_in x) (words (definitions (codes_in s.codes) []).value scope.names) ≡ meaning_of_next before x
+    is_meaning = ap (block x.bytes.items (defs_in x)) seen.0
+
+    pub refused_next : (fault : ScopeFault) → IsFaultOf x.bytes.items scope.names (module_of x.module) fault → Refuses fault (meaning_of_next before x).refusal
+    refused_next fault is = subst (λ m. Refuses fault m.refusal) is_meaning (is (definitions (codes_in s.codes) []).value h.top)
+
+    module _ (codes : Codes) (new : Linker) (resolved : AreCodes x.bytes.items scope.names scope.next (module_of x.module) codes) (kept : Keeps x flags codes s new) where
+      first : Translated ℕ (Scope ℕ)
+      first = definitions (codes_in s.codes) []
+
+      second : Translated ℕ (Scope ℕ)
+      second = definitions (codes_in codes) (definitions (codes_in s.codes) []).value
+
+      holds : Holds scope.next (block x.bytes.items (defs_in x) (words (definitions (codes_in s.codes) []).value scope.names)) (definitions (codes_in codes) (definitions (codes_in s.codes) []).value)
+      holds = resolved.holds (definitions (codes_in s.codes) []).value h.top
+
+      leaves : Leaves scope.names (bound_by x.bytes.items (codes_in codes)) scope.next
+          (length (block x.bytes.items (defs_in x) (words (definitions (codes_in s.codes) []).value scope.names)).stated)
+          (definitions (codes_in s.codes) []).value (block x.bytes.items (defs_in x) (words (definitions (codes_in s.codes) []).value scope.names)).value
+          (definitions (codes_in codes) (definitions (codes_in s.codes) []).value).value
+      leaves = resolved.leaves (definitions (codes_in s.codes) []).value h.top
+
+      name : Stated ℕ → ℕ
+      name d = d.name
+
+      -- the definitions of all modules
+      all_is : definitions (codes_in new.codes) [] ≡ (definitions (codes_in s.codes) [] >>= λ K. definitions (codes_in codes) K)
+      all_is = ap (λ cs. definitions cs []) kept.defs_are ∙ definitions_append (codes_in s.codes) (codes_in codes) []
+
+      count : length second.stated ≡ length spelt.stated
+      unfolding second spelt H
+      count = sym (length-map second.stated (λ (d : Stated ℕ). d.name)) ∙ ap length holds.numbered ∙ counted (length spelt.stated) scope.next
+
+      next : scope.next ≡ length first.stated
+      unfolding first
+      next = sees.next_is ∙ h.linked.next_is
+
+      fine : AreFine (meanings (before ++ x ∷ []))
+      fine = subst AreFine (sym (meanings_more [] before x))
+          (all_append (λ (m : Translated Word (Scope Word)). m.refusal ≡ None) (meanings before) (meaning_of_next before x ∷ []) h.linked.fine
+          (all_one (λ (m : Translated Word (Scope Word)). m.refusal ≡ None) (meaning_of_next before x) (subst (λ m. m.refusal ≡ None) is_meaning holds.fits)))
+
+      judgements_more : judgements (before ++ x ∷ []) ≡ judgements before ++ judgements_of (meaning_of_next before x).stated
+      judgements_more =
+          let f = λ (m : Translated Word (Scope Word)). judgements_of m.stated in
+          ap (flat_map f) (meanings_more [] before x) ∙ flat_map-append f (meanings before) (meaning_of_next before x ∷ [])
+          ∙ ap (λ js. judgements before ++ js) (append_empty (judgements_of (meaning_of_next before x).stated))
+
+      linked : IsLinked (before ++ x ∷ []) new.codes
+      unfolding first second spelt H name
+      linked = record {
+        fine = fine;
+        judgements_are = ap (λ m. judgements_of m.stated) all_is ∙ judgements_append first.stated second.stated
+            ∙ ap (λ js. js ++ judgements_of second.stated) h.linked.judgements_are
+            ∙ ap (λ js. judgements before ++ js) (holds.judgements ∙ ap (λ m. judgements_of m.stated) is_meaning)
+            ∙ sym judgements_more;
+        numbered =
+            let together = length-append first.stated second.stated in
+            let from : count_from (length spelt.stated) scope.next ≡ count_from (length second.stated) (0 + length first.stated) =
+            ap (λ n. count_from n scope.next) (sym count) ∙ ap (count_from (length second.stated)) (let n = next in omega arith) in
+            ap (λ m. map (λ (d : Stated ℕ). d.name) m.stated) all_is ∙ map_append (λ (d : Stated ℕ). d.name) first.stated second.stated
+            ∙ ap (λ ns. ns ++ map (λ (d : Stated ℕ). d.name) second.stated) h.linked.numbered
+            ∙ ap (λ ns. count_from (length first.stated) 0 ++ ns) (holds.numbered ∙ from)
+            ∙ sym (count_append (length first.stated) (length second.stated) 0)
+            ∙ ap (λ n. count_from n 0) (sym together)
+            ∙ sym (ap (λ m. count_from (length m.stated) 0) all_is);
+        next_is =
+            let together = length-append first.stated second.stated in
+            kept.next_is ∙ resolved.counted (definitions (codes_in s.codes) []).value h.top
+            ∙ (let n = next in let c = count in omega arith) ∙ sym together ∙ sym (ap (λ m. length m.stated) all_is);
+      }
+
+      last : Known
+      last = known_as x (meaning_of_next before x).value
+
+      defs_kept : (known_as x (meaning_of_next before x).value).defs ≡ words (definitions (codes_in codes) (definitions (codes_in s.codes) []).value).value kept.known.names
+      unfolding spelt H
+      defs_kept =
+          let K = (definitions (codes_in codes) (definitions (codes_in s.codes) []).value).value in
+          let bound = bound_by x.bytes.items (codes_in codes) in
+          let value : (meaning_of_next before x).value ≡ words K bound ++ words K scope.names =
+          sym (ap (λ m. m.value) is_meaning) ∙ leaves.named ∙ words_append K scope.names bound in
+          let long : length (defs_in x) ≡ length (words K bound) =
+          sym (length-map (defs_in x) (λ (d : Written). d.name)) ∙ sym (ap length resolved.named) ∙ length-map (codes_in codes) (λ c. (out-CodeDef c).name)
+          ∙ sym (length-map (codes_in codes) (bound_as x.bytes.items)) ∙ sym (length-reverse bound) ∙ sym (length-map (reverse bound) (entry K)) in
+          ap (take (length (defs_in x))) value ∙ take_front (words K bound) (words K scope.names) (length (defs_in x)) long ∙ ap (words K) (sym kept.names_are)
+
+      stand : Stand (definitions (codes_in new.codes) []).value new.codes.next (known_after [] (before ++ x ∷ [])) (reverse new.known.items)
+      stand =
+          let K = (definitions (codes_in codes) (definitions (codes_in s.codes) []).value).value in
+          let next_new : new.codes.next ≡ scope.next + length (block x.bytes.items (defs_in x) (words (definitions (codes_in s.codes) []).value scope.names)).stated =
+          kept.next_is ∙ resolved.counted (definitions (codes_in s.codes) []).value h.top in
+          let same : K ≡ (definitions (codes_in new.codes) []).value = sym (ap (λ m. m.value) all_is) in
+          let one : Stand K new.codes.next (and_known (known_after [] before) x) (kept.known ∷ reverse s.known.items) =
+          (kept.imports_are ∙ wants flags are, defs_kept,
+           subst (AreEarlier new.codes.next) (sym kept.names_are) (subst (λ n. AreEarlier n (bound_by x.bytes.items (codes_in codes))) (sym next_new) leaves.below),
+           stand_kept (definitions (codes_in s.codes) []).value K s.codes.next new.codes.next (known_after [] before) (reverse s.known.items)
+               (λ n l. leaves.kept n (let e = sees.next_is in omega arith)) (let e = next_new in let d = sees.next_is in omega arith) h.stand) in
+          subst (λ G. Stand G new.codes.next (known_after [] (before ++ x ∷ [])) (reverse new.known.items)) same
+          (subst (λ m. Stand K new.codes.next m (reverse new.known.items)) (sym (known_more [] before x))
+          (subst (Stand K new.codes.next (and_known (known_after [] before) x)) (sym (ap reverse kept.all_known ∙ reverse-append s.known.items (kept.known ∷ []))) one))
+
+      pub links : HasLinked (before ++ x ∷ []) new
+      links = record { linked = linked; top = ap (λ m. context_of m.value) all_is ∙ leaves.top; stand = stand }
+
+-- what is seen, of the same
+pub seen_of : {known ks : List Kept} {flags fs : List Bool} {next n : ℕ} {scope : ScopeOf} → ks ≡ known → fs ≡ flags → n ≡ next → Sees ks fs n scope → Sees known flags next scope
+seen_of {known} {ks} {flags} {fs} {next} {n} {scope} e d c s =
+    subst (λ x. Sees x flags next scope) e (subst (λ x. Sees ks x next scope) d (subst (λ x. Sees ks fs x scope) c s))
+
+-- as many modules are kept as are known
+
+stand_length : (H : Scope ℕ) (next : ℕ) (ms : List Known) (ks : List Kept) → Stand H next ms ks → length ms ≡ length ks
+stand_length H next [] [] h = refl
+stand_length H next [] (k ∷ ks) h = absurd h
+stand_length H next (m ∷ ms) [] h = absurd h
+stand_length H next (m ∷ ms) (k ∷ ks) h = let l = stand_length H next ms ks h.3 in omega arith
+
+known_length : (known : List Known) (xs : List ModuleText) → length (known_after known xs) ≡ length known + length xs
+known_length known [] = omega arith
+known_length known (x ∷ xs) = let h = known_length (and_known known x) xs in omega arith
+
+pub kept_length : (before : List ModuleText) (s : Linker) (names : List (List ℕ)) → HasLinked before s → length (are_among names (map name_of before)) ≡ length s.known.items
+kept_length before s names h =
+    let a = stand_length (definitions (codes_in s.codes) []).value s.codes.next (known_after [] before) (reverse s.known.items) h.stand in
+    let b = known_length [] before in
+    let c = length-reverse s.known.items in
+    length-map (map name_of before) (λ x. list_any (bytes_eq x) names) ∙ length-map before name_of ∙ (omega arith)
+
+-- the first that is refused
+
+take_meanings : (known : List Known) (xs : List ModuleText) (n : ℕ) → take n (meanings_after known xs) ≡ meanings_after known (take n xs)
+take_meanings known [] zero = refl
+take_meanings known [] (suc n) = refl
+take_meanings known (x ∷ xs) zero = refl
+take_meanings known (x ∷ xs) (suc n) = ap (λ ms. meaning_after known x ∷ ms) (take_meanings (and_known known x) xs n)
+
+meaning_at : (known : List Known) (xs : List ModuleText) (n : ℕ) (d : ModuleText) (e : Translated Word (Scope Word)) → n < length xs
+    → get_or (meanings_after known xs) n e ≡ meaning_after (known_after known (take n xs)) (get_or xs n d)
+meaning_at known [] n d e l = absurd (omega arith)
+meaning_at known (x ∷ xs) zero d e l = refl
+meaning_at known (x ∷ xs) (suc n) d e l = meaning_at (and_known known x) xs n d e (omega arith)
+
+pub refused_first : (texts before : List ModuleText) (at : ℕ) (s : Linker) (x : ModuleText) (fault : ScopeFault) → at < length texts → before ≡ take at texts → x ≡ get_or texts at x
+    → HasLinked (take at texts) s → Refuses fault (meaning_of_next before x).refusal → RefusedFirst texts at fault
+refused_first texts before at s x fault l front is h r = record {
+  within = l;
+  fine = subst AreFine (sym (take_meanings [] texts at)) h.linked.fine;
+  refuses = subst (λ m. Refuses fault m.refusal)
+      (ap (λ b. meaning_of_next b x) front ∙ ap (meaning_of_next (take at texts)) is ∙ sym (meaning_at [] texts at x (done []) l)) r;
+}

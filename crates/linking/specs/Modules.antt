@@ -1,0 +1,65 @@
+-- What modules mean that are loaded, one after another.
+use Rattle.std.specs.Prelude.{◌≡◌, ◌<◌, ◌++◌, ℕ, List, [], ◌∷◌, bytes_eq, length, take, get_or}
+use Rattle.std.specs.Prelude.{if◌then◌else◌, None}
+use Rattle.std.specs.List.{All, flat_map, list_any}
+use Rattle.syntax.specs.View.{module_of}
+use Rattle.trees.specs.Judgements.{Judgement}
+use Rattle.translation.specs.declared.fault.ScopeFault.{ScopeFault}
+use Rattle.translation.specs.Scopes.{Scope}
+use Rattle.translation.specs.Translated.{Translated, Refuses, done, judgements_of}
+use Rattle.translation.specs.Names.{Word}
+use Rattle.translation.specs.Texts.{Written, block}
+use Rattle.module_texts.specs.declared.text.ModuleText.{ModuleText}
+use Rattle.module_texts.specs.Texts.{name_of, imports_of}
+use Rattle.resolver.specs.Resolved.{defs_of_module}
+
+-- a module whose text was translated, with its definitions, the last first
+pub record Known : Type 0 where
+  pub name : List ℕ
+  pub imports : List (List ℕ)
+  pub defs : Scope Word
+
+-- The definitions of the modules that these names reach, in the order of loading. The modules stand
+-- the last first, and each was loaded after its imports.
+abbrev pub reached : List Known → List (List ℕ) → Scope Word
+reached [] names = []
+reached (m ∷ before) names =
+    if list_any (bytes_eq m.name) names then m.defs ++ reached before (names ++ m.imports)
+    else reached before names
+
+abbrev pub defs_in : ModuleText → List Written
+defs_in x = defs_of_module x.bytes.items (module_of x.module)
+
+-- what a module means after others: its definitions, in the scope that its imports reach
+abbrev pub meaning_after : List Known → ModuleText → Translated Word (Scope Word)
+meaning_after known x = block x.bytes.items (defs_in x) (reached known (imports_of x))
+
+abbrev pub known_as : ModuleText → Scope Word → Known
+known_as x G =
+    record { name = name_of x; imports = imports_of x; defs = take (length (defs_in x)) G }
+
+-- one module more
+abbrev pub and_known : List Known → ModuleText → List Known
+and_known known x = known_as x (meaning_after known x).value ∷ known
+
+-- what each of the modules means
+abbrev pub meanings_after : List Known → List ModuleText → List (Translated Word (Scope Word))
+meanings_after known [] = []
+meanings_after known (x ∷ xs) = meaning_after known x ∷ meanings_after (and_known known x) xs
+
+abbrev pub meanings : List ModuleText → List (Translated Word (Scope Word))
+meanings = meanings_after []
+
+-- the judgements that modules spell, in order
+abbrev pub judgements : List ModuleText → List Judgement
+judgements xs = flat_map (λ m. judgements_of m.stated) (meanings xs)
+
+-- none of these is refused
+abbrev pub AreFine : List (Translated Word (Scope Word)) → Type 0
+AreFine = All (λ m. m.refusal ≡ None)
+
+-- The module at the place is the first that is refused, and that is its fault.
+pub record RefusedFirst (xs : List ModuleText) (at : ℕ) (fault : ScopeFault) : Type 0 where
+  pub within : at < length xs
+  pub fine : AreFine (take at (meanings xs))
+  pub refuses : Refuses fault (get_or (meanings xs) at (done [])).refusal
