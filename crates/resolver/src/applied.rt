@@ -16,18 +16,66 @@ ghost use Rattle.readings.specs.Spelt.{
   elements_of,
   named_of,
   plain_of,
+  term_of,
 };
+ghost use Rattle.resolver.specs.Forms.{IsApply, IsProject};
 
 use crate::arguments::first_argument;
 use crate::resolving::Resolver;
 use codes::{Code, Element};
 use layout_lexer::Span;
+use readings::projected;
 use scopes::{Found, Place};
 use std::alloc::AllocError;
 use syntax::Element::{Argument, At};
+use syntax::Exp;
 use translation::{BuiltIn, span_of};
 
 impl<'a> Resolver<'a> {
+    /// `head elements`
+    #[cycle(resolve)]
+    pub(crate) fn applied(&self, place: &mut Place<'a>, exp: &Exp) -> Result<Code, AllocError>
+        requires { IsApply exp.now }
+        ensures { IfOk result (λ c. Resolves place.old place.new
+            (term_of self.now.names.bytes.now exp.now) (code_term c)) }
+    {
+        let Exp::Apply {
+            span,
+            head,
+            elements,
+        } = exp
+        else {
+            unreachable!();
+        };
+        match &**head {
+            Exp::Name { span: name } => self.named(place, *span, *name, elements.as_slice()),
+            _ => {
+                let head = self.exp(place, head)?;
+                let elements = self.elements(place, elements.as_slice())?;
+                Code::apply(self.names.alloc, *span, head, elements)
+            }
+        }
+    }
+
+    /// `pair.1.2 ..`
+    #[cycle(resolve)]
+    pub(crate) fn project(&self, place: &mut Place<'a>, exp: &Exp) -> Result<Code, AllocError>
+        requires { IsProject exp.now }
+        ensures { IfOk result (λ c. Resolves place.old place.new
+            (term_of self.now.names.bytes.now exp.now) (code_term c)) }
+    {
+        let Exp::Project {
+            span,
+            pair,
+            projections,
+        } = exp
+        else {
+            unreachable!();
+        };
+        let pair = self.exp(place, pair)?;
+        projected(self.names.alloc, *span, pair, projections.as_slice())
+    }
+
     /// `name elements`. The built-in `suc` and `natrec` take arguments of their own, where enough
     /// are written.
     #[cycle(resolve)]

@@ -4,8 +4,11 @@
 
 mod applied;
 mod arguments;
+mod binding;
 mod defs;
 mod exps;
+mod gluing;
+mod kan;
 mod opened;
 mod resolving;
 mod systems;

@@ -23,105 +23,126 @@ use Rattle.scopes.specs.declared.names.Found.TheVariants as found
 use Rattle.translation.specs.declared.built_in.BuiltIn.TheVariants as built_in
 use Rattle.resolver.proofs.resolving.Resolver.+resolve.Goals as goal
 
--- expressions
+-- texts that bind names
 
-pub exp-returns-in_ok-body-in-Let : goal.exp-returns-in_ok-body-in-Let
-exp-returns-in_ok-body-in-Let t c =
+pub let_in-returns : goal.let_in-returns
+let_in-returns t c =
     let bytes = c.args.self.now.names.bytes.now in
     answered c.let_in.result c.let_in.ensures
     (text_is (let_is bytes c.in-Let.span c.in-Let.defs c.in-Let.body c.in-Let.is c.as_slice.ensures c.deref.ensures)
-    (let_resolves bytes _ _ _ _ c.mark-mark.ensures c.in_ok-locals-in-Let.ensures.opens c.in_ok-body-in-Let.ensures c.cut.ensures))
+    (let_resolves bytes _ _ _ _ c.mark-mark.ensures c.in_ok-locals.ensures.opens c.in_ok-body.ensures c.cut.ensures))
 
-pub exp-returns-in_ok-body-in-Lambda : goal.exp-returns-in_ok-body-in-Lambda
-exp-returns-in_ok-body-in-Lambda t c =
+pub lambda-returns : goal.lambda-returns
+lambda-returns t c =
     let bytes = c.args.self.now.names.bytes.now in
     answered c.lambda.result c.lambda.ensures
-    (text_is (lambda_is bytes c.in-Lambda.span c.in-Lambda.teles c.in-Lambda.body c.in-Lambda.is c.as_slice-in-Lambda.ensures c.deref-in-Lambda.ensures)
-    (under_resolves lam bytes _ _ _ _ c.mark-mark-in-Lambda.ensures c.in_ok-binders-in-Lambda.ensures c.in_ok-body-in-Lambda.ensures c.cut-in-Lambda.ensures))
+    (text_is (lambda_is bytes c.in-Lambda.span c.in-Lambda.teles c.in-Lambda.body c.in-Lambda.is c.as_slice.ensures c.deref.ensures)
+    (under_resolves lam bytes _ _ _ _ c.mark-mark.ensures c.in_ok-binders.ensures c.in_ok-body.ensures c.cut.ensures))
 
-pub exp-returns-in_ok-body-in-PathLambda : goal.exp-returns-in_ok-body-in-PathLambda
-exp-returns-in_ok-body-in-PathLambda t c =
+pub path_lambda-returns : goal.path_lambda-returns
+path_lambda-returns t c =
     let bytes = c.args.self.now.names.bytes.now in
     answered c.path_lambda.result c.path_lambda.ensures
-    (text_is (path_lambda_is bytes c.in-PathLambda.span c.in-PathLambda.names c.in-PathLambda.body c.in-PathLambda.is c.as_slice-names.ensures c.deref-in-PathLambda.ensures)
-    (path_lambda_resolves bytes c.as_slice-names.result.now _ _ c.mark-mark-in-PathLambda.ensures refl c.in_ok-bind_all-in-PathLambda.ensures c.in_ok-body-in-PathLambda.ensures c.cut-in-PathLambda.ensures))
+    (text_is (path_lambda_is bytes c.in-PathLambda.span c.in-PathLambda.names c.in-PathLambda.body c.in-PathLambda.is c.as_slice-names.ensures c.deref.ensures)
+    (path_lambda_resolves bytes c.as_slice-names.result.now _ _ c.mark-mark.ensures refl c.in_ok-bind_all.ensures c.in_ok-body.ensures c.cut.ensures))
 
-pub exp-returns-in_ok-body-in-Pi : goal.exp-returns-in_ok-body-in-Pi
-exp-returns-in_ok-body-in-Pi t c =
+pub pi-returns : goal.pi-returns
+pi-returns t c =
     let bytes = c.args.self.now.names.bytes.now in
     answered c.pi.result c.pi.ensures
-    (text_is (pi_is bytes c.in-Pi.span c.in-Pi.teles c.in-Pi.body c.in-Pi.is c.as_slice-in-Pi.ensures c.deref-in-Pi.ensures)
-    (under_resolves pi bytes _ _ _ _ c.mark-mark-in-Pi.ensures c.in_ok-binders-in-Pi.ensures c.in_ok-body-in-Pi.ensures c.cut-in-Pi.ensures))
+    (text_is (pi_is bytes c.in-Pi.span c.in-Pi.teles c.in-Pi.body c.in-Pi.is c.as_slice.ensures c.deref.ensures)
+    (under_resolves pi bytes _ _ _ _ c.mark-mark.ensures c.in_ok-binders.ensures c.in_ok-body.ensures c.cut.ensures))
 
-pub exp-returns-in_ok-body-in-Sigma : goal.exp-returns-in_ok-body-in-Sigma
-exp-returns-in_ok-body-in-Sigma t c =
+pub sigma-returns : goal.sigma-returns
+sigma-returns t c =
     let bytes = c.args.self.now.names.bytes.now in
     answered c.sigma.result c.sigma.ensures
-    (text_is (sigma_is bytes c.in-Sigma.span c.in-Sigma.teles c.in-Sigma.body c.in-Sigma.is c.as_slice-in-Sigma.ensures c.deref-in-Sigma.ensures)
-    (under_resolves sig bytes _ _ _ _ c.mark-mark-in-Sigma.ensures c.in_ok-binders-in-Sigma.ensures c.in_ok-body-in-Sigma.ensures c.cut-in-Sigma.ensures))
+    (text_is (sigma_is bytes c.in-Sigma.span c.in-Sigma.teles c.in-Sigma.body c.in-Sigma.is c.as_slice.ensures c.deref.ensures)
+    (under_resolves sig bytes _ _ _ _ c.mark-mark.ensures c.in_ok-binders.ensures c.in_ok-body.ensures c.cut.ensures))
 
-pub exp-returns-in_ok-to-in-Arrow : goal.exp-returns-in_ok-to-in-Arrow
-exp-returns-in_ok-to-in-Arrow t c =
+pub arrow-returns : goal.arrow-returns
+arrow-returns t c =
     let bytes = c.args.self.now.names.bytes.now in
     answered c.arrow.result c.arrow.ensures
-    (text_is (arrow_is bytes c.in-Arrow.span c.in-Arrow.from c.in-Arrow.to c.in-Arrow.is c.deref-in-Arrow.ensures c.deref-in-Arrow-2.ensures)
-    (arrow_resolves bytes _ _ _ _ c.mark-mark-in-Arrow.ensures c.in_ok-from-in-Arrow.ensures c.in_ok-bind-in-Arrow.ensures.ok c.in_ok-to-in-Arrow.ensures c.cut-in-Arrow.ensures))
+    (text_is (arrow_is bytes c.in-Arrow.span c.in-Arrow.from c.in-Arrow.to c.in-Arrow.is c.deref.ensures c.deref-2.ensures)
+    (arrow_resolves bytes _ _ _ _ c.mark-mark.ensures c.in_ok-from.ensures c.in_ok-bind.ensures.ok c.in_ok-to.ensures c.cut.ensures))
 
-pub exp-returns-in_ok-right-in-PathP : goal.exp-returns-in_ok-right-in-PathP
-exp-returns-in_ok-right-in-PathP t c =
+-- types of paths, and compositions
+
+pub path_type-returns : goal.path_type-returns
+path_type-returns t c =
     let bytes = c.args.self.now.names.bytes.now in
     answered c.path_type.result c.path_type.ensures
-    (text_is (path_type_is bytes c.in-PathP.span c.in-PathP.line c.in-PathP.left c.in-PathP.right c.in-PathP.is c.deref-in-PathP-2.ensures c.deref-in-PathP-3.ensures c.deref-in-PathP-4.ensures)
-    (path_type_resolves bytes _ _ _ _ _ _ c.in_ok-line-in-PathP.ensures c.in_ok-left-in-PathP.ensures c.in_ok-right-in-PathP.ensures))
+    (text_is (path_type_is bytes c.in-PathP.span c.in-PathP.line c.in-PathP.left c.in-PathP.right c.in-PathP.is c.deref-2.ensures c.deref-3.ensures c.deref-4.ensures)
+    (path_type_resolves bytes _ _ _ _ _ _ c.in_ok-line.ensures c.in_ok-left.ensures c.in_ok-right.ensures))
 
-pub exp-returns-in_ok-sides-in-Comp : goal.exp-returns-in_ok-sides-in-Comp
-exp-returns-in_ok-sides-in-Comp t c =
+pub comp-returns : goal.comp-returns
+comp-returns t c =
     let bytes = c.args.self.now.names.bytes.now in
     answered c.comp.result c.comp.ensures
-    (text_is (comp_is bytes c.in-Comp.span c.in-Comp.line c.in-Comp.base c.in-Comp.sides c.in-Comp.is c.deref-in-Comp-2.ensures c.deref-in-Comp-3.ensures c.as_slice-in-Comp.ensures)
-    (comp_resolves bytes _ _ _ _ _ _ c.in_ok-line-in-Comp.ensures c.in_ok-base-in-Comp.ensures c.in_ok-sides-in-Comp.ensures))
+    (text_is (comp_is bytes c.in-Comp.span c.in-Comp.line c.in-Comp.base c.in-Comp.sides c.in-Comp.is c.deref-2.ensures c.deref-3.ensures c.as_slice.ensures)
+    (comp_resolves bytes _ _ _ _ _ _ c.in_ok-line.ensures c.in_ok-base.ensures c.in_ok-sides.ensures))
 
-pub exp-returns-in_ok-sides-in-Fill : goal.exp-returns-in_ok-sides-in-Fill
-exp-returns-in_ok-sides-in-Fill t c =
+pub fill-returns : goal.fill-returns
+fill-returns t c =
     let bytes = c.args.self.now.names.bytes.now in
     answered c.fill.result c.fill.ensures
-    (text_is (fill_is bytes c.in-Fill.span c.in-Fill.line c.in-Fill.base c.in-Fill.sides c.in-Fill.is c.deref-in-Fill-2.ensures c.deref-in-Fill-3.ensures c.as_slice-in-Fill.ensures)
-    (fill_resolves bytes _ _ _ _ _ _ c.in_ok-line-in-Fill.ensures c.in_ok-base-in-Fill.ensures c.in_ok-sides-in-Fill.ensures))
+    (text_is (fill_is bytes c.in-Fill.span c.in-Fill.line c.in-Fill.base c.in-Fill.sides c.in-Fill.is c.deref-2.ensures c.deref-3.ensures c.as_slice.ensures)
+    (fill_resolves bytes _ _ _ _ _ _ c.in_ok-line.ensures c.in_ok-base.ensures c.in_ok-sides.ensures))
 
-pub exp-returns-in_ok-base-in-Transport : goal.exp-returns-in_ok-base-in-Transport
-exp-returns-in_ok-base-in-Transport t c =
+pub transport-returns : goal.transport-returns
+transport-returns t c =
     let bytes = c.args.self.now.names.bytes.now in
     answered c.transport.result c.transport.ensures
-    (text_is (transport_is bytes c.in-Transport.span c.in-Transport.line c.in-Transport.base c.in-Transport.is c.deref-in-Transport-2.ensures c.deref-in-Transport-3.ensures)
-    (transport_resolves bytes _ _ _ _ c.in_ok-line-in-Transport.ensures c.in_ok-base-in-Transport.ensures))
+    (text_is (transport_is bytes c.in-Transport.span c.in-Transport.line c.in-Transport.base c.in-Transport.is c.deref-2.ensures c.deref-3.ensures)
+    (transport_resolves bytes _ _ _ _ c.in_ok-line.ensures c.in_ok-base.ensures))
 
-pub exp-returns-in_ok-sides-in-GlueType : goal.exp-returns-in_ok-sides-in-GlueType
-exp-returns-in_ok-sides-in-GlueType t c =
+-- glueing
+
+pub glue_type-returns : goal.glue_type-returns
+glue_type-returns t c =
     let bytes = c.args.self.now.names.bytes.now in
     answered c.glue_type.result c.glue_type.ensures
-    (text_is (glue_type_is bytes c.in-GlueType.span c.in-GlueType.base c.in-GlueType.sides c.in-GlueType.is c.deref-in-GlueType.ensures c.as_slice-in-GlueType.ensures)
-    (glue_type_resolves bytes _ _ _ _ c.in_ok-base-in-GlueType.ensures c.in_ok-sides-in-GlueType.ensures))
+    (text_is (glue_type_is bytes c.in-GlueType.span c.in-GlueType.base c.in-GlueType.sides c.in-GlueType.is c.deref.ensures c.as_slice.ensures)
+    (glue_type_resolves bytes _ _ _ _ c.in_ok-base.ensures c.in_ok-sides.ensures))
 
-pub exp-returns-in_ok-sides-in-GlueTerm : goal.exp-returns-in_ok-sides-in-GlueTerm
-exp-returns-in_ok-sides-in-GlueTerm t c =
+pub glue_term-returns : goal.glue_term-returns
+glue_term-returns t c =
     let bytes = c.args.self.now.names.bytes.now in
     answered c.glue_term.result c.glue_term.ensures
-    (text_is (glue_term_is bytes c.in-GlueTerm.span c.in-GlueTerm.base c.in-GlueTerm.sides c.in-GlueTerm.is c.deref-in-GlueTerm.ensures c.as_slice-in-GlueTerm.ensures)
-    (glue_term_resolves bytes _ _ _ _ c.in_ok-base-in-GlueTerm.ensures c.in_ok-sides-in-GlueTerm.ensures))
+    (text_is (glue_term_is bytes c.in-GlueTerm.span c.in-GlueTerm.base c.in-GlueTerm.sides c.in-GlueTerm.is c.deref.ensures c.as_slice.ensures)
+    (glue_term_resolves bytes _ _ _ _ c.in_ok-base.ensures c.in_ok-sides.ensures))
 
-pub exp-returns-in_ok-sides-in-Unglue : goal.exp-returns-in_ok-sides-in-Unglue
-exp-returns-in_ok-sides-in-Unglue t c =
+pub unglue-returns : goal.unglue-returns
+unglue-returns t c =
     let bytes = c.args.self.now.names.bytes.now in
     answered c.unglue.result c.unglue.ensures
-    (text_is (unglue_is bytes c.in-Unglue.span c.in-Unglue.base c.in-Unglue.sides c.in-Unglue.is c.deref-in-Unglue.ensures c.as_slice-in-Unglue.ensures)
-    (unglue_resolves bytes _ _ _ _ c.in_ok-base-in-Unglue.ensures c.in_ok-sides-in-Unglue.ensures))
+    (text_is (unglue_is bytes c.in-Unglue.span c.in-Unglue.base c.in-Unglue.sides c.in-Unglue.is c.deref.ensures c.as_slice.ensures)
+    (unglue_resolves bytes _ _ _ _ c.in_ok-base.ensures c.in_ok-sides.ensures))
 
-pub exp-returns-in_ok-pair-in-Project : goal.exp-returns-in_ok-pair-in-Project
-exp-returns-in_ok-pair-in-Project t c =
+-- what is applied and projected
+
+pub applied-returns-in-Name : goal.applied-returns-in-Name
+applied-returns-in-Name t c =
+    answer_is _ _ c.named.result
+    (named_is c.args.self.now.names.bytes.now c.in-Apply.span c.in-Apply.head c.in-Name.name c.in-Apply.elements c.in-Apply.is c.deref.ensures c.in-Name.is c.as_slice.ensures)
+    c.named.ensures
+
+pub applied-returns-in_ok-elements-in_default-deref : goal.applied-returns-in_ok-elements-in_default-deref
+applied-returns-in_ok-elements-in_default-deref t c =
+    let bytes = c.args.self.now.names.bytes.now in
+    answered c.apply.result c.apply.ensures
+    (text_is (applied_is bytes c.in-Apply.span c.in-Apply.head c.in-Apply.elements c.in-Apply.is c.deref-in_default-deref.ensures (λ n e. c.in_default-deref.not-Name n (c.deref.ensures ∙ e)) c.as_slice-in_default-deref.ensures)
+    (application_resolves bytes _ _ _ _ c.in_ok-head-in_default-deref.ensures c.in_ok-elements-in_default-deref.ensures))
+
+pub project-returns : goal.project-returns
+project-returns t c =
     let bytes = c.args.self.now.names.bytes.now in
     answered c.projected.result c.projected.ensures
-    (text_is (project_is bytes c.in-Project.span c.in-Project.pair c.in-Project.projections c.in-Project.is c.deref-in-Project.ensures c.as_slice-in-Project.ensures)
-    (project_resolves bytes _ _ (λ t. project t c.as_slice-in-Project.result.now) c.in_ok-pair-in-Project.ensures))
+    (text_is (project_is bytes c.in-Project.span c.in-Project.pair c.in-Project.projections c.in-Project.is c.deref.ensures c.as_slice.ensures)
+    (project_resolves bytes _ _ (λ t. project t c.as_slice.result.now) c.in_ok-pair.ensures))
+
+-- expressions
 
 pub exp-returns-in-Universe : goal.exp-returns-in-Universe
 exp-returns-in-Universe t c = text_is (universe_is c.args.self.now.names.bytes.now c.in-Universe.span c.in-Universe.is) (universe_resolves _ refl)
@@ -129,24 +150,14 @@ exp-returns-in-Universe t c = text_is (universe_is c.args.self.now.names.bytes.n
 pub exp-returns-in-Name : goal.exp-returns-in-Name
 exp-returns-in-Name t c = name_answered _ _ c.name.result (name_is c.args.self.now.names.bytes.now c.in-Name.span c.in-Name.is) c.name.ensures
 
-pub exp-returns-in-Name-deref : goal.exp-returns-in-Name-deref
-exp-returns-in-Name-deref t c =
-    answer_is _ _ c.named.result
-    (named_is c.args.self.now.names.bytes.now c.in-Apply.span c.in-Apply.head c.in-Name-deref.name c.in-Apply.elements c.in-Apply.is c.deref-in-Apply.ensures c.in-Name-deref.is c.as_slice-in-Name-deref.ensures)
-    c.named.ensures
+pub exp-returns-in-Brackets : goal.exp-returns-in-Brackets
+exp-returns-in-Brackets t c =
+    answer_is _ _ c.brackets.result
+    (brackets_is c.args.self.now.names.bytes.now c.in-Brackets.span c.in-Brackets.components c.in-Brackets.is c.as_slice.ensures)
+    c.brackets.ensures
 
-pub exp-returns-in_ok-elements-in_default : goal.exp-returns-in_ok-elements-in_default
-exp-returns-in_ok-elements-in_default t c =
-    let bytes = c.args.self.now.names.bytes.now in
-    answered c.apply.result c.apply.ensures
-    (text_is (applied_is bytes c.in-Apply.span c.in-Apply.head c.in-Apply.elements c.in-Apply.is c.deref-in_default.ensures (λ n e. c.in_default.not-Name n (c.deref-in-Apply.ensures ∙ e)) c.as_slice-in_default.ensures)
-    (application_resolves bytes _ _ _ _ c.in_ok-head-in_default.ensures c.in_ok-elements-in_default.ensures))
-
-pub exp-returns-in_ok-exps-in-Brackets : goal.exp-returns-in_ok-exps-in-Brackets
-exp-returns-in_ok-exps-in-Brackets t c =
-    let bytes = c.args.self.now.names.bytes.now in
-    text_is (brackets_is bytes c.in-Brackets.span c.in-Brackets.components c.in-Brackets.is c.as_slice-in-Brackets.ensures)
-    (tuple_resolves bytes _ _ _ c.tuple.ensures c.in_ok-exps-in-Brackets.ensures)
+pub brackets-returns : goal.brackets-returns
+brackets-returns t c = tuple_resolves c.args.self.now.names.bytes.now _ _ _ c.tuple.ensures c.in_ok-exps.ensures
 
 pub exps-loop-exp-init : goal.exps-loop-exp-init
 exps-loop-exp-init t c = exps_none c.args.self.now.names.bytes.now c.args.place.now c.new-resolved.result.items c.new-resolved.ensures.items
