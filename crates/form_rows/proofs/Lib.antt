@@ -1,0 +1,4 @@
+pub mod RowLaws
+pub mod NestLaws
+pub mod SystemLaws
+pub mod FaceLaws
