@@ -156,10 +156,10 @@ projected_more {f} {g} {h} {pair} {at} {row} {ps} p r lt here j kept made = reco
         Make (taken_by p) (trees_of (k.0 ∷ [])),
         is_made (taken_by p) (sym (takes_one p)) (are_one k.1) made,
         ap (λ n. project (Make (taken_by p) (trees_of (k.0 ∷ []))) (drop n ps)) (sym s)
-        ∙ sym (project_next p k.0 (drop (suc at) ps))
-        ∙ ap (λ q. project k.0 (q ∷ drop (suc at) ps)) here
-        ∙ ap (project k.0) (sym (drop_next ps at p lt))
-        ∙ k.2
+            ∙ sym (project_next p k.0 (drop (suc at) ps))
+            ∙ ap (λ q. project k.0 (q ∷ drop (suc at) ps)) here
+            ∙ ap (project k.0) (sym (drop_next ps at p lt))
+            ∙ k.2,
       );
 }
 

@@ -1,3 +1,4 @@
 pub mod Meant
 pub mod Systems
 pub mod Formulas
+pub mod Fillings

@@ -8,14 +8,14 @@
 //! ```
 #![tactic(auto)]
 
-
+mod fillings;
 mod formulas;
 mod lifting;
 mod nesting;
 mod systems;
 mod terms;
 
-
+pub use fillings::filling;
 pub use formulas::{face, formula};
 pub use lifting::lifted;
 pub use nesting::{nested, tupled};

@@ -12,12 +12,7 @@ use std::alloc::AllocError;
 use trees::Op;
 
 /// An operator of two kids over each of the rows and what comes after it, the last over `last`.
-pub fn nested<M: Maker>(
-    maker: &mut M,
-    op: Op,
-    rows: &[u64],
-    last: u64,
-) -> Result<u64, AllocError>
+pub fn nested<M: Maker>(maker: &mut M, op: Op, rows: &[u64], last: u64) -> Result<u64, AllocError>
     requires two { kids_of op ≡ 2 }
     requires rows { AreTrees (M.means maker.old) rows.now }
     requires last { IsTree (M.means maker.old last) }
@@ -36,12 +31,7 @@ pub fn nested<M: Maker>(
 }
 
 /// The same where the last stands among the rows; of no rows, the other operator.
-pub fn tupled<M: Maker>(
-    maker: &mut M,
-    op: Op,
-    none: Op,
-    rows: &[u64],
-) -> Result<u64, AllocError>
+pub fn tupled<M: Maker>(maker: &mut M, op: Op, none: Op, rows: &[u64]) -> Result<u64, AllocError>
     requires two { kids_of op ≡ 2 }
     requires zero { kids_of none ≡ 0 }
     requires rows { AreTrees (M.means maker.old) rows.now }

@@ -25,11 +25,7 @@ pub fn cover<M: Maker>(maker: &mut M, faces: &[u64]) -> Result<u64, AllocError>
 }
 
 /// The system that is each of the values on its face.
-pub fn system<M: Maker>(
-    maker: &mut M,
-    faces: &[u64],
-    values: &[u64],
-) -> Result<u64, AllocError>
+pub fn system<M: Maker>(maker: &mut M, faces: &[u64], values: &[u64]) -> Result<u64, AllocError>
     requires as_many { length faces.now ≡ length values.now }
     requires faces { AreTrees (M.means maker.old) faces.now }
     requires values { AreTrees (M.means maker.old) values.now }
