@@ -1,8 +1,10 @@
 -- What contracts see of a book.
 use Rattle.std.specs.Prelude.{◌≡◌, ◌<◌, ◌≤◌, ℕ, length, Option, Some, None, slice_get}
+use Rattle.std.specs.Prelude.{option_and_then}
 use Rattle.std.specs.List.{All}
 use Rattle.trees.specs.Judgements.{Judgement}
-use Rattle.trees.specs.Things.{Meanings, Kept}
+use Rattle.trees.specs.Things.{Thing, Meanings, Kept}
+use Rattle.interned.specs.Coding.{thing_coded}
 use Rattle.interned.specs.Coded.{things_coded}
 use Rattle.book.specs.Nodes.{Node, node_at, concluded}
 use Rattle.book.specs.Contents.{Contents}
@@ -11,6 +13,10 @@ use Rattle.book.specs.declared.kernel.Mark.{Mark}
 -- what each row means
 abbrev pub book_means : Contents → Meanings
 book_means b = slice_get (things_coded b.rows)
+
+-- what a row means, where the rows that it names mean these things
+abbrev pub row_over : Contents → ℕ → Meanings → Option Thing
+row_over b k f = option_and_then (thing_coded f) (slice_get b.rows k)
 
 -- the nodes as they were made
 abbrev pub book_nodes : Contents → ℕ → Option Node

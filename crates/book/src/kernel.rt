@@ -66,7 +66,7 @@ impl Book {
     ghost use Rattle.std.specs.Prelude.{IsSome, IsTrue, length};
     ghost use Rattle.std.specs.List.{All};
     ghost use Rattle.trees.specs.Judgements.{Judgement};
-    ghost use Rattle.trees.specs.Things.{meanings};
+    ghost use Rattle.trees.specs.Things.{Meanings, meanings};
     ghost use Rattle.trees.specs.Claimed.{claimed};
     ghost use Rattle.rows.specs.Views.{IsTree, row_meaning};
     ghost use Rattle.interned.specs.Names.{row_names};
@@ -78,7 +78,7 @@ impl Book {
     ghost use Rattle.book.specs.Coded.{node_shown};
     ghost use Rattle.book.specs.Right.{IsUse, IsMadeBy, AreRight};
     ghost use Rattle.book.specs.Shown.{book_means, book_nodes, book_concludes, Extends, IsMark};
-    ghost use Rattle.book.specs.Shown.{Released};
+    ghost use Rattle.book.specs.Shown.{Released, row_over};
 
     /// No rows and no nodes.
     pub fn new(alloc: Global) -> Result<Book, AllocError>
@@ -168,6 +168,7 @@ impl Book {
     pub fn row(&self, row: u64) -> Row<'_>
         requires { IsSome (book_means self.now row) }
         ensures meaning { book_means self.now row ≡ row_meaning (book_means self.now) result }
+        ensures over { (f : Meanings) → row_over self.now row f ≡ row_meaning f result }
         ensures earlier { All (λ k. k < row) (row_names result) }
     {
         self.rows.row(row)

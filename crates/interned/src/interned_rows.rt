@@ -26,14 +26,14 @@ impl InternedRows {
     ghost use Rattle.std.specs.Prelude.{◌≡◌, ◌<◌, ◌≤◌, ◌+◌, [], length, take, IfOk, OnOk, OnErr};
     ghost use Rattle.std.specs.Prelude.{IsOk, IsSome, slice_get, Some};
     ghost use Rattle.std.specs.List.{All};
-    ghost use Rattle.trees.specs.Things.{Kept};
+    ghost use Rattle.trees.specs.Things.{Meanings, Kept};
     ghost use Rattle.rows.specs.Views.{IsSubst, term_meaning, sub_meaning, ctx_meaning};
     ghost use Rattle.rows.specs.Views.{row_meaning};
     ghost use Rattle.interned.specs.Names.{row_names};
     ghost use Rattle.rows.specs.Held.{IsSizeAt};
     ghost use Rattle.interned.specs.Coding.{thing_coded, IsTermFit, IsShiftFit};
     ghost use Rattle.interned.specs.Coded.{IsSized, IsRowAt};
-    ghost use Rattle.interned.specs.Shown.{things, rows_mean, rows_spare};
+    ghost use Rattle.interned.specs.Shown.{things, rows_mean, rows_spare, row_over};
 
     /// No rows.
     pub fn new(alloc: Global) -> Result<InternedRows, AllocError>
@@ -142,7 +142,8 @@ impl InternedRows {
     /// The words of a row.
     fn words(&self, row: u64) -> &[u64]
         requires { IsSome (rows_mean self.now row) }
-        ensures { IsRowAt (things self.now) row result.now }
+        ensures row { IsRowAt (things self.now) row result.now }
+        ensures words { slice_get self.now.region.rows row ≡ Some result.now }
     {
         self.region.row(RowId(row))
     }
@@ -151,6 +152,7 @@ impl InternedRows {
     pub fn row(&self, row: u64) -> Row<'_>
         requires { IsSome (rows_mean self.now row) }
         ensures meaning { rows_mean self.now row ≡ row_meaning (rows_mean self.now) result }
+        ensures over { (f : Meanings) → row_over self.now row f ≡ row_meaning f result }
         ensures earlier { All (λ k. k < row) (row_names result) }
     {
         coded_row(self.words(row))

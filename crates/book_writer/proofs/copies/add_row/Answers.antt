@@ -130,3 +130,18 @@ then-requires-clause-second c =
     let e = both-copied (book_means c.args.book.now) c.args.lines.now c.args.places.now c.requires.placed c.args.row c.requires.next then_of c.in-Subst-Then.first.0 c.in-Subst-Then.second.0 (book_means c.args.book.now c.args.row) c.requires.there (rw c.in-Subst-Then.field-0-is at c.in-Subst-Then.ensures.meaning) (rw c.in-Subst-Then.field-0-is at c.in-Subst-Then.ensures.earlier) in
     let some = subst (λ (o : Option Thing). IsSome o) (sym e) c.requires.there in
     second-fits c.args.lines.now (subst IsFile c.lines.view_is c.lines.invariant.1) _ _ some
+
+pub offset_bounds-places-sub : goal.offset_bounds-places-sub
+offset_bounds-places-sub c = let early = rw c.in-Term-Instance.field-0-is at c.in-Term-Instance.ensures.earlier in let low = early 1 0 (omega arith) in omega (arith, c.requires.next, low)
+
+pub offset_bounds-places-term-in-Subst-Push : goal.offset_bounds-places-term-in-Subst-Push
+offset_bounds-places-term-in-Subst-Push c = let early = rw c.in-Subst-Push.field-0-is at c.in-Subst-Push.ensures.earlier in let low = early 1 0 (omega arith) in omega (arith, c.requires.next, low)
+
+pub offset_bounds-places-second : goal.offset_bounds-places-second
+offset_bounds-places-second c = let early = rw c.in-Subst-Then.field-0-is at c.in-Subst-Then.ensures.earlier in let low = early 1 0 (omega arith) in omega (arith, c.requires.next, low)
+
+pub offset_bounds-places-ty : goal.offset_bounds-places-ty
+offset_bounds-places-ty c = let early = rw c.in-Context-Var.field-0-is at c.in-Context-Var.ensures.earlier in let low = early 1 0 (omega arith) in omega (arith, c.requires.next, low)
+
+pub offset_bounds-places-face : goal.offset_bounds-places-face
+offset_bounds-places-face c = let early = rw c.in-Context-Face.field-0-is at c.in-Context-Face.ensures.earlier in let low = early 1 0 (omega arith) in omega (arith, c.requires.next, low)

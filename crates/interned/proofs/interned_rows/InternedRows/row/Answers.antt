@@ -1,5 +1,6 @@
-use Rattle.std.proofs.Common.{◌∙◌, sym, take}
-use Rattle.std.specs.Prelude.{slice_get}
+use Rattle.std.proofs.Common.{◌∙◌, sym, ap, take}
+use Rattle.std.specs.Prelude.{slice_get, option_and_then}
+use Rattle.interned.specs.Coding.{thing_coded}
 use Rattle.interned.specs.Names.{row_names}
 use Rattle.interned.specs.Shown.{things}
 use Rattle.interned.proofs.CodedLaws.{earlier-names}
@@ -12,4 +13,7 @@ returns-clause-earlier c =
     let xs = things c.args.self.now in
     let f = slice_get (take k xs) in
     let row = c.coded_row.result in
-    earlier-names k xs (row_names row) (row_names-mean f row c.words.ensures.thing (sym (c.coded_row.ensures f) ∙ c.words.ensures.before))
+    earlier-names k xs (row_names row) (row_names-mean f row c.words.ensures.row.thing (sym (c.coded_row.ensures f) ∙ c.words.ensures.row.before))
+
+pub returns-clause-over : goal.returns-clause-over
+returns-clause-over c = λ f. ap (option_and_then (thing_coded f)) c.words.ensures.words ∙ c.coded_row.ensures f

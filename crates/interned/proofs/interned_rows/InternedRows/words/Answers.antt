@@ -13,5 +13,5 @@ row-requires c =
     let x = is_some-value (rows_mean s c.args.row) c.requires in
     omega (arith, slice_get_within (things s) c.args.row x.0 x.1, length-built thing_of s.region.rows)
 
-pub returns : goal.returns
-returns c = let s = c.args.self.now in row_there s.region.rows s.coded c.args.row c.row.result.now c.row.ensures
+pub returns-clause-row : goal.returns-clause-row
+returns-clause-row c = let s = c.args.self.now in row_there s.region.rows s.coded c.args.row c.row.result.now c.row.ensures
