@@ -1,10 +1,13 @@
--- When a derived rule may be used over a book.
+-- When a derived rule may be used over a book, and what its use gives.
 use Rattle.std.specs.Prelude.{◌≡◌, ℕ, List, ◌∷◌, Some}
 use Rattle.trees.specs.Things.{Thing, meanings}
 use Rattle.book.specs.Contents.{Contents}
 use Rattle.book.specs.Shown.{book_means, book_concludes}
 use Rattle.recipes.specs.Statements.{Statement}
-use Rattle.recipes.specs.Derivations.{MayStandAt, premises_at}
+use Rattle.book.specs.declared.kernel.NodeId.{NodeId}
+use Rattle.recipes.specs.Derivations.{MayStandAt, premises_at, conclusions_at}
+use Rattle.kan_calls.specs.declared.calls.Derive.{Derive}
+use Rattle.kan_calls.specs.declared.calls.Derived.{Derived}
 
 -- the parts mean things at which the statement may stand, and the node of the context and the
 -- premises conclude what it wants there
@@ -13,3 +16,14 @@ pub record MayCall (s : Statement) (b : Contents) (ctx : ℕ) (parts premises : 
   pub parts_are : meanings (book_means b) parts ≡ Some things
   pub premises_are : meanings (book_concludes b) (ctx ∷ premises) ≡ Some (premises_at s things)
   pub may_stand : MayStandAt s things
+
+-- the statement may be used so, at what the parts mean
+abbrev pub MayUse : Statement → Contents → NodeId → Derive → Type 0
+MayUse s b ctx step = (things : List Thing) × MayCall s b ctx.0 step.parts step.premises things
+
+-- the nodes conclude what the statement gives, wherever it may be used so
+abbrev pub Gives : Statement → Contents → Contents → NodeId → Derive → Derived → Type 0
+Gives s old new ctx step derived =
+    (things : List Thing) → MayCall s old ctx.0 step.parts step.premises things
+    → meanings (book_concludes new) (derived.typing.0 ∷ derived.equations)
+        ≡ Some (conclusions_at s things)

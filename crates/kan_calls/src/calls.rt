@@ -3,13 +3,12 @@
 ghost use Rattle.std.specs.Prelude.{◌≡◌, ◌≤◌, ◌<◌, ◌+◌, ◌++◌, [], ◌∷◌, List, length};
 ghost use Rattle.std.specs.Prelude.{Some, IfOk, IsOk};
 ghost use Rattle.trees.specs.Judgements.{Judgement};
-ghost use Rattle.trees.specs.Things.{Thing, meanings};
+ghost use Rattle.trees.specs.Things.{meanings};
 ghost use Rattle.book.specs.Shown.{book_concludes, Extends};
-ghost use Rattle.recipes.specs.Derivations.{conclusions_at};
 ghost use Rattle.recipe_runner.specs.Running.{MayRun, most_added_by, most_made_by};
 ghost use Rattle.kan_fill.specs.Statements.{fill_statement, contr_statement, pres_statement};
 ghost use Rattle.kan_fill.specs.Statements.{equiv_statement};
-ghost use Rattle.kan_calls.specs.Calls.{MayCall};
+ghost use Rattle.kan_calls.specs.Calls.{MayUse, Gives};
 
 use crate::earlier::{Contraction, Filling};
 use book::{Book, Few, NodeId};
@@ -106,15 +105,11 @@ fn call<E: Earlier>(
 /// # Errors
 /// Only where memory runs out that the spare does not cover.
 pub fn fill(book: &mut Book, ctx: NodeId, step: &Derive) -> Result<Derived, AllocError>
-    requires { (things : List Thing) × MayCall fill_statement book.old ctx.0
-        step.now.parts step.now.premises things }
+    requires { MayUse fill_statement book.old ctx step.now }
     ensures covered { ROWS ≤ book.old.spare → IsOk result }
     ensures spends { book.old.spare ≤ book.new.spare + ROWS }
     ensures extends { Extends book.old book.new }
-    ensures gives { IfOk result (λ derived. (things : List Thing) →
-        MayCall fill_statement book.old ctx.0 step.now.parts step.now.premises things →
-        meanings (book_concludes book.new) (derived.typing.0 ∷ derived.equations) ≡
-        Some (conclusions_at fill_statement things)) }
+    ensures gives { IfOk result (Gives fill_statement book.old book.new ctx step.now) }
 {
     filling_is_derived();
     Ok(call(book, &NoRecipes, FILL, FILL_GIVES, ctx, step)?)
@@ -126,15 +121,11 @@ pub fn fill(book: &mut Book, ctx: NodeId, step: &Derive) -> Result<Derived, Allo
 /// # Errors
 /// Only where memory runs out that the spare does not cover.
 pub fn contr(book: &mut Book, ctx: NodeId, step: &Derive) -> Result<Derived, AllocError>
-    requires { (things : List Thing) × MayCall contr_statement book.old ctx.0
-        step.now.parts step.now.premises things }
+    requires { MayUse contr_statement book.old ctx step.now }
     ensures covered { ROWS ≤ book.old.spare → IsOk result }
     ensures spends { book.old.spare ≤ book.new.spare + ROWS }
     ensures extends { Extends book.old book.new }
-    ensures gives { IfOk result (λ derived. (things : List Thing) →
-        MayCall contr_statement book.old ctx.0 step.now.parts step.now.premises things →
-        meanings (book_concludes book.new) (derived.typing.0 ∷ derived.equations) ≡
-        Some (conclusions_at contr_statement things)) }
+    ensures gives { IfOk result (Gives contr_statement book.old book.new ctx step.now) }
 {
     contraction_is_derived();
     Ok(call(book, &NoRecipes, CONTR, CONTR_GIVES, ctx, step)?)
@@ -147,15 +138,11 @@ pub fn contr(book: &mut Book, ctx: NodeId, step: &Derive) -> Result<Derived, All
 /// # Errors
 /// Only where memory runs out that the spare does not cover.
 pub fn pres(book: &mut Book, ctx: NodeId, step: &Derive) -> Result<Derived, AllocError>
-    requires { (things : List Thing) × MayCall pres_statement book.old ctx.0
-        step.now.parts step.now.premises things }
+    requires { MayUse pres_statement book.old ctx step.now }
     ensures covered { ROWS ≤ book.old.spare → IsOk result }
     ensures spends { book.old.spare ≤ book.new.spare + ROWS }
     ensures extends { Extends book.old book.new }
-    ensures gives { IfOk result (λ derived. (things : List Thing) →
-        MayCall pres_statement book.old ctx.0 step.now.parts step.now.premises things →
-        meanings (book_concludes book.new) (derived.typing.0 ∷ derived.equations) ≡
-        Some (conclusions_at pres_statement things)) }
+    ensures gives { IfOk result (Gives pres_statement book.old book.new ctx step.now) }
 {
     preservation_is_derived();
     Ok(call(book, &Filling, PRES, PRES_GIVES, ctx, step)?)
@@ -167,15 +154,11 @@ pub fn pres(book: &mut Book, ctx: NodeId, step: &Derive) -> Result<Derived, Allo
 /// # Errors
 /// Only where memory runs out that the spare does not cover.
 pub fn equiv(book: &mut Book, ctx: NodeId, step: &Derive) -> Result<Derived, AllocError>
-    requires { (things : List Thing) × MayCall equiv_statement book.old ctx.0
-        step.now.parts step.now.premises things }
+    requires { MayUse equiv_statement book.old ctx step.now }
     ensures covered { ROWS ≤ book.old.spare → IsOk result }
     ensures spends { book.old.spare ≤ book.new.spare + ROWS }
     ensures extends { Extends book.old book.new }
-    ensures gives { IfOk result (λ derived. (things : List Thing) →
-        MayCall equiv_statement book.old ctx.0 step.now.parts step.now.premises things →
-        meanings (book_concludes book.new) (derived.typing.0 ∷ derived.equations) ≡
-        Some (conclusions_at equiv_statement things)) }
+    ensures gives { IfOk result (Gives equiv_statement book.old book.new ctx step.now) }
 {
     extension_is_derived();
     Ok(call(book, &Contraction, EQUIV, EQUIV_GIVES, ctx, step)?)
