@@ -1,7 +1,8 @@
 """Recipes as `recipes/*.txt` has them, read: things by name, and nodes line by line.
 
 A recipe is `name | parts`, its premises after `from`, its side conditions after `if`, names of
-things after `let`, its nodes after `rows`, and what it gives after `gives`. A node is
+things after `let`, its nodes after `rows`, and what it gives after `gives`. Where its last row is
+a use of an earlier recipe, the premises of that may stand after `premises`. A node is
 
     number  judgement  by rule parts of nodes
 
@@ -236,7 +237,7 @@ class Recipe:
     def __init__(self, text, earlier=None):
         self.earlier = earlier or {}
         self.rules = {rule.name: rule for family in families() for rule in family.rules}
-        sections = re.split(r"^(from|if|let|rows|gives)\b", text, flags=re.M)
+        sections = re.split(r"^(from|if|let|rows|gives|premises)\b", text, flags=re.M)
         head, sections = sections[0], dict(zip(sections[1::2], sections[2::2]))
         about, _, head = head.strip().rpartition("\n")
         self.about = [line.lstrip("# ") for line in about.splitlines()]
@@ -248,6 +249,7 @@ class Recipe:
         self.wants = [judgement(line, self.names) for line in lines(sections["from"])]
         self.nodes = [self.node(line) for line in lines(sections["rows"])]
         self.outs = [line.split() for line in lines(sections["gives"])]
+        self.premises = [line.split() for line in lines(sections.get("premises", ""))]
         said = {node.name: node.text for node in self.nodes}
         self.gives = {label: judgement(said[name], self.names) for label, name in self.outs}
         self.check()

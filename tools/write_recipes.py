@@ -21,9 +21,10 @@ CRATES = {
         "restrict_ty0", "restrict_ty1", "restrict_tm0", "restrict_tm1", "cover_ty", "cover_tm",
         "lam_cong", "pair_cong", "plam_cong", "sys_cong", "glue_cong",
     ],
+    "book_tests": ["two", "successor", "constant", "twice", "variables"],
     "kan_tests": [
         "fill_faces", "fill_lines", "contr_variable", "pres_numbers", "equiv_variable",
-        "equiv_numbers", "fill_premises", "pres_premises",
+        "equiv_numbers", "fill_premises",
     ],
 }
 EARLIER = {"pres": ["fill"], "equiv": ["contr"]}
@@ -119,11 +120,17 @@ class Table:
         lines.append(f"pub static {name}: &[Row] = table! {{")
         for text, comment in self.rows:
             lines += wrapped(comment) + broken(f"    {text},")
-        outs = ", ".join(str(self.nodes[node]) for _, node in self.recipe.outs)
-        given = ", ".join(label for label, _ in self.recipe.outs)
-        lines += ["};", "", *wrapped(f"The rows of what it gives: {given}.", "/// ", "/// "),
-                  f"pub static {name}_GIVES: &[u16] = &[{outs}];", ""]
-        return "\n".join(lines)
+        lines += ["};", *self.named(f"{name}_GIVES", "what it gives", self.recipe.outs)]
+        if self.recipe.premises:
+            of = "the premises of its last row"
+            lines += self.named(f"{name}_PREMISES", of, self.recipe.premises)
+        return "\n".join(lines + [""])
+
+    def named(self, name, of, nodes):
+        """A list of rows."""
+        about = f"The rows of {of}: {', '.join(label for label, _ in nodes)}."
+        rows = ", ".join(str(self.nodes[node]) for _, node in nodes)
+        return ["", *wrapped(about, "/// ", "/// "), f"pub static {name}: &[u16] = &[{rows}];"]
 
 
 def wrapped(comment, first="    // ", further="    //   "):

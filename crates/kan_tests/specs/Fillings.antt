@@ -1,18 +1,22 @@
 -- What is tried of filling, contraction, preservation and extension: what is given of each, with
 -- nothing wanted.
-use Rattle.std.specs.Prelude.{List, [], ◌∷◌, ◌++◌}
+use Rattle.std.specs.Prelude.{List, [], ◌∷◌, ◌++◌, ◌-◌, length, take, Option}
 use Rattle.trees.specs.declared.op.Op.TheVariants as op
 use Rattle.trees.specs.declared.kind.PartKind.{PartKind}
-use Rattle.trees.specs.Judgements.{trees}
-use Rattle.trees.specs.Things.{Thing, AContext, ATree}
+use Rattle.trees.specs.Judgements.{Judgement, trees}
+use Rattle.trees.specs.Things.{Thing, AContext, ATree, meanings}
 use Rattle.trees.specs.Language.{Language, JudgementOf, Tm, TmEq}
 use Rattle.patterns.specs.Patterns.{patterns}
 use Rattle.rules.specs.Table.{weakened, i0, i1, neg, min, f0, eq0, eq1, join, all, universe}
 use Rattle.rules.specs.Table.{pi, lam, pathp, plam, nat, zero, is_contr, fill}
 use Rattle.rules.specs.Table.{equiv, fiber, pair, fst, snd, papp}
+use Rattle.book.specs.Contents.{Contents}
+use Rattle.book.specs.Shown.{book_concludes}
+use Rattle.kan_calls.specs.declared.calls.Derived.{Derived}
 use Rattle.kan_fill.specs.Statements.{filling, contraction, preservation, extension}
 use Rattle.kan_fill.specs.Statements.{fill_statement, contr_statement, pres_statement}
 use Rattle.kan_fill.specs.Statements.{equiv_statement}
+use Rattle.recipes.specs.declared.row.Row.{Row}
 use Rattle.recipes.specs.Statements.{Claimed, Statement, stated}
 
 module _ (L : Language) where
@@ -81,7 +85,7 @@ module _ (L : Language) where
   }
 
   -- one name
-  abbrev name : L.context
+  abbrev pub name : L.context
   name = L.with_name L.nil
 
   -- the premises of a filling of zero by itself, from the end 0 of a name
@@ -108,7 +112,7 @@ module _ (L : Language) where
   -- The element of a type X that is a variable: of a context with X, that X is contractible, and an
   -- element of X.
 
-  abbrev contractible : L.context
+  abbrev pub contractible : L.context
   contractible =
       let type_of = L.with_var (L.with_name L.nil) (universe L) in
       L.with_var (L.with_var type_of (is_contr L (L.var 0))) (L.var 1)
@@ -120,6 +124,16 @@ module _ (L : Language) where
     gives =
         (contraction L contractible (L.var 2) (L.var 1) (eq0 L (L.var 3)) (L.var 0)).gives;
   }
+
+  -- the premises of that
+  abbrev contracted : Claimed L
+  contracted =
+      let end = eq0 L (L.var 3) in
+      record {
+        wants = [];
+        sides = [];
+        gives = (contraction L contractible (L.var 2) (L.var 1) end (L.var 0)).wants;
+      }
 
   -- numbers, carried along the identity
   abbrev carried : Claimed L
@@ -136,7 +150,7 @@ module _ (L : Language) where
   -- An equivalence of numbers that is a variable: of a context with it and an element of its fiber
   -- at zero.
 
-  abbrev of_fiber : L.context
+  abbrev pub of_fiber : L.context
   of_fiber =
       let equivalence = L.with_var name (equiv L (nat L) (nat L)) in
       L.with_var equivalence (fiber L (nat L) (nat L) (fst L (L.var 0)) (zero L))
@@ -149,6 +163,17 @@ module _ (L : Language) where
         sides = [];
         gives =
             (extension L of_fiber (nat L) (nat L) (L.var 1) end (L.var 0) (zero L)).gives;
+      }
+
+  -- the premises of that
+  abbrev raised : Claimed L
+  raised =
+      let end = eq0 L (L.var 2) in
+      record {
+        wants = [];
+        sides = [];
+        gives =
+            (extension L of_fiber (nat L) (nat L) (L.var 1) end (L.var 0) (zero L)).wants;
       }
 
   -- The identity of numbers as an equivalence: each fiber contracts to a number and its constant
@@ -232,3 +257,39 @@ preservation_parts =
     ∷ ATree (zero trees)
     ∷ ATree (zero trees)
     ∷ []
+
+abbrev pub contracted_statement : Statement
+contracted_statement = stated none (contracted patterns)
+
+-- the parts of that contraction
+abbrev pub contraction_parts : List Thing
+contraction_parts =
+    AContext (contractible trees)
+    ∷ ATree (trees.var 2)
+    ∷ ATree (trees.var 1)
+    ∷ ATree (eq0 trees (trees.var 3))
+    ∷ ATree (trees.var 0)
+    ∷ []
+
+abbrev pub raised_statement : Statement
+raised_statement = stated none (raised patterns)
+
+-- the parts of that extension
+abbrev pub extension_parts : List Thing
+extension_parts =
+    AContext (of_fiber trees)
+    ∷ ATree (nat trees)
+    ∷ ATree (nat trees)
+    ∷ ATree (trees.var 1)
+    ∷ ATree (eq0 trees (trees.var 2))
+    ∷ ATree (trees.var 0)
+    ∷ ATree (zero trees)
+    ∷ []
+
+-- the rows of a table before its last
+abbrev pub before_last : List Row → List Row
+before_last rows = take (length rows - 1) rows
+
+-- what the nodes conclude that a call gave, where all are there
+abbrev pub given_by : Contents → Derived → Option (List Judgement)
+given_by b d = meanings (book_concludes b) (d.typing.0 ∷ d.equations)

@@ -115,3 +115,6 @@ pub static CONTR_VARIABLE: &[Row] = table! {
 
 /// The rows of what it gives: typing, face.
 pub static CONTR_VARIABLE_GIVES: &[u16] = &[57, 58];
+
+/// The rows of the premises of its last row: context, type, contractible, element.
+pub static CONTR_VARIABLE_PREMISES: &[u16] = &[43, 47, 50, 56];

@@ -217,3 +217,6 @@ pub static EQUIV_VARIABLE: &[Row] = table! {
 
 /// The rows of what it gives: typing, face.
 pub static EQUIV_VARIABLE_GIVES: &[u16] = &[118, 119];
+
+/// The rows of the premises of its last row: context, source, target, equivalence, point, element.
+pub static EQUIV_VARIABLE_PREMISES: &[u16] = &[104, 109, 109, 107, 110, 117];

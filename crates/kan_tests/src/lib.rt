@@ -6,6 +6,7 @@ ghost use Rattle.recipes.specs.Derivations.{Derives};
 ghost use Rattle.kan_tests.specs.Fillings.{faces_statement, lines_statement, extended_statement};
 ghost use Rattle.kan_tests.specs.Fillings.{carried_statement, lifted_statement, earlier};
 ghost use Rattle.kan_tests.specs.Fillings.{identity_statement, premises_statement, moved_statement};
+ghost use Rattle.kan_tests.specs.Fillings.{contracted_statement, raised_statement, before_last};
 
 /// The rows of a table, each on a line of its own however long.
 macro_rules! table {
@@ -20,17 +21,15 @@ mod fill_faces;
 mod fill_lines;
 mod fill_premises;
 mod pres_numbers;
-mod pres_premises;
 
-pub use calls::{Call, filling, preservation};
-pub use contr_variable::{CONTR_VARIABLE, CONTR_VARIABLE_GIVES};
+pub use calls::{Call, contraction, extension, filling, preservation};
+pub use contr_variable::{CONTR_VARIABLE, CONTR_VARIABLE_GIVES, CONTR_VARIABLE_PREMISES};
 pub use equiv_numbers::{EQUIV_NUMBERS, EQUIV_NUMBERS_GIVES};
-pub use equiv_variable::{EQUIV_VARIABLE, EQUIV_VARIABLE_GIVES};
+pub use equiv_variable::{EQUIV_VARIABLE, EQUIV_VARIABLE_GIVES, EQUIV_VARIABLE_PREMISES};
 pub use fill_faces::{FILL_FACES, FILL_FACES_GIVES};
 pub use fill_lines::{FILL_LINES, FILL_LINES_GIVES};
 pub use fill_premises::{FILL_PREMISES, FILL_PREMISES_GIVES};
-pub use pres_numbers::{PRES_NUMBERS, PRES_NUMBERS_GIVES};
-pub use pres_premises::{PRES_PREMISES, PRES_PREMISES_GIVES};
+pub use pres_numbers::{PRES_NUMBERS, PRES_NUMBERS_GIVES, PRES_NUMBERS_PREMISES};
 
 #[cfg(test)]
 mod call_tests;
@@ -68,7 +67,12 @@ pub fn premises_are_derived()
     ensures { Derives earlier premises_statement FILL_PREMISES.now FILL_PREMISES_GIVES.now }
 {}
 
-/// The premises of a preservation that is called.
-pub fn moved_premises_are_derived()
-    ensures { Derives earlier moved_statement PRES_PREMISES.now PRES_PREMISES_GIVES.now }
+/// The premises of a contraction, a preservation and an extension that are called.
+pub fn called_premises_are_derived()
+    ensures contraction { Derives earlier contracted_statement (before_last CONTR_VARIABLE.now)
+        CONTR_VARIABLE_PREMISES.now }
+    ensures preservation { Derives earlier moved_statement (before_last PRES_NUMBERS.now)
+        PRES_NUMBERS_PREMISES.now }
+    ensures extension { Derives earlier raised_statement (before_last EQUIV_VARIABLE.now)
+        EQUIV_VARIABLE_PREMISES.now }
 {}

@@ -56,3 +56,6 @@ pub static PRES_NUMBERS: &[Row] = table! {
 
 /// The rows of what it gives: typing, zero, one, face.
 pub static PRES_NUMBERS_GIVES: &[u16] = &[23, 24, 25, 26];
+
+/// The rows of the premises of its last row: context, source, target, function, side, base, agrees.
+pub static PRES_NUMBERS_PREMISES: &[u16] = &[2, 8, 8, 11, 17, 18, 21];

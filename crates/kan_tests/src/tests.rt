@@ -1,9 +1,8 @@
 //! Uses of the derived rules as derivation files.
 
-ghost use Rattle.std.specs.Prelude.{◌≡◌, ◌≤◌, [], List, IfOk, IsSome, length, map};
+ghost use Rattle.std.specs.Prelude.{◌≤◌, [], List, length};
 ghost use Rattle.trees.specs.Judgements.{Judgement};
 ghost use Rattle.book.specs.Contents.{Contents};
-ghost use Rattle.book_writer.specs.Written.{concluded_by};
 ghost use Rattle.kan_tests.specs.Fillings.{earlier};
 ghost use Rattle.recipe_runner.specs.Running.{MayRun, most_made_by};
 
@@ -14,32 +13,12 @@ use crate::{
     PRES_NUMBERS_GIVES, contraction_is_derived, extension_is_derived, fillings_are_derived,
     identity_is_equivalence, preservation_is_derived,
 };
-use book::{Book, NodeId};
-use book_writer::write;
+use book::Book;
+use book_tests::{judged, nodes_of};
 use recipes::Row;
-use replay::{Verdict, judge};
+use replay::Verdict;
 use std::alloc::{AllocError, Global};
 use std::test::Fail;
-
-/// These numbers as nodes.
-fn nodes_of(alloc: Global, numbers: &[u64]) -> Result<Vec<NodeId>, AllocError>
-    ensures { IfOk result (λ nodes. map (λ node. node.0) nodes.items ≡ numbers.now) }
-{
-    let mut nodes = Vec::new(alloc);
-    for number in numbers {
-        nodes.push(NodeId(*number))?;
-    }
-    Ok(nodes)
-}
-
-/// The verdict on the file of what these nodes conclude.
-pub fn judged(alloc: Global, book: &Book, roots: &[NodeId]) -> Result<Verdict, AllocError>
-    requires { IsSome (concluded_by book.now roots.now) }
-{
-    let mut bytes = Vec::new(alloc);
-    write(book, alloc, roots, &mut bytes)?;
-    Ok(judge(alloc, bytes.as_slice())?.verdict)
-}
 
 /// The verdict on the file of what a recipe without parts gives.
 fn verdict(alloc: Global, rows: &[Row], outs: &[u16]) -> Result<Verdict, AllocError>

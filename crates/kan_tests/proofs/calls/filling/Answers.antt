@@ -7,7 +7,8 @@ use Rattle.recipes.specs.Derivations.{Derives, conclusions_at}
 use Rattle.recipe_runner.specs.Running.{MayRun}
 use Rattle.kan_tests.specs.Fillings.{premises_statement, filling_parts, earlier}
 use Rattle.kan_tests.specs.declared.fill_premises.TheConstants.{FILL_PREMISES, FILL_PREMISES_GIVES}
-use Rattle.kan_tests.proofs.TestLaws.{may-try, may-fill, five-premises}
+use Rattle.book_tests.proofs.RunLaws.{may-try}
+use Rattle.kan_tests.proofs.TestLaws.{may-fill, some-nodes}
 use Rattle.kan_tests.proofs.calls.filling.Goals as goal
 
 right : Derives earlier premises_statement FILL_PREMISES.now FILL_PREMISES_GIVES.now → (b : Contents) → MayRun earlier b FILL_PREMISES.now FILL_PREMISES_GIVES.now [] [] (conclusions_at premises_statement [])
@@ -19,7 +20,7 @@ given-requires-clause-right c = (conclusions_at premises_statement [], right c.p
 pub call_of-requires-clause-some : goal.call_of-requires-clause-some
 call_of-requires-clause-some c =
     let concluded = c.in_ok-nodes.ensures.gives (conclusions_at premises_statement []) (right c.premises_are_derived.ensures) in
-    subst (λ ks. 0 < length ks) (sym c.as_slice.ensures.value) (five-premises c.given.new.book c.in_ok-nodes.nodes concluded)
+    subst (λ ks. 0 < length ks) (sym c.as_slice.ensures.value) (some-nodes c.given.new.book c.in_ok-nodes.nodes _ _ concluded)
 
 pub returns : goal.returns
 returns c =

@@ -6,7 +6,8 @@ use Rattle.trees.specs.Things.{ATree, meanings, with_a_name}
 use Rattle.trees.specs.Judgements.{trees}
 use Rattle.rules.specs.Table.{nat}
 use Rattle.book.specs.Shown.{book_means}
-use Rattle.kan_tests.proofs.TestLaws.{moved-parts-are, made-of-one, made-of-two}
+use Rattle.book_tests.proofs.RunLaws.{made-of-one, made-of-two}
+use Rattle.kan_tests.proofs.TestLaws.{moved-parts-are}
 use Rattle.kan_tests.proofs.calls.moved_parts.Goals as goal
 
 pub returns : goal.returns

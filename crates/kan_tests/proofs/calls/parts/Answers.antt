@@ -4,7 +4,8 @@ use Rattle.trees.specs.declared.op.Op.TheVariants as op
 use Rattle.trees.specs.Trees.{Var}
 use Rattle.trees.specs.Things.{ATree, meanings, with_a_name}
 use Rattle.book.specs.Shown.{book_means}
-use Rattle.kan_tests.proofs.TestLaws.{parts-are, made-of-one}
+use Rattle.book_tests.proofs.RunLaws.{made-of-one}
+use Rattle.kan_tests.proofs.TestLaws.{parts-are}
 use Rattle.kan_tests.proofs.calls.parts.Goals as goal
 
 pub returns : goal.returns

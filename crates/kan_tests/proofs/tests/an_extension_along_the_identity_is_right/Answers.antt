@@ -2,7 +2,7 @@ use Rattle.std.proofs.Common.{[], refl}
 use Rattle.recipes.specs.Derivations.{conclusions_at}
 use Rattle.kan_tests.specs.Fillings.{identity_statement, earlier}
 use Rattle.kan_tests.specs.declared.equiv_numbers.TheConstants.{EQUIV_NUMBERS, EQUIV_NUMBERS_GIVES}
-use Rattle.kan_tests.proofs.TestLaws.{may-try}
+use Rattle.book_tests.proofs.RunLaws.{may-try}
 use Rattle.kan_tests.proofs.tests.an_extension_along_the_identity_is_right.Goals as goal
 
 pub verdict-requires-clause-right : goal.verdict-requires-clause-right

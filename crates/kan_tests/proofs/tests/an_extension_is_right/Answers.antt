@@ -2,7 +2,7 @@ use Rattle.std.proofs.Common.{[], refl}
 use Rattle.recipes.specs.Derivations.{conclusions_at}
 use Rattle.kan_tests.specs.Fillings.{lifted_statement, earlier}
 use Rattle.kan_tests.specs.declared.equiv_variable.TheConstants.{EQUIV_VARIABLE, EQUIV_VARIABLE_GIVES}
-use Rattle.kan_tests.proofs.TestLaws.{may-try}
+use Rattle.book_tests.proofs.RunLaws.{may-try}
 use Rattle.kan_tests.proofs.tests.an_extension_is_right.Goals as goal
 
 pub verdict-requires-clause-right : goal.verdict-requires-clause-right

@@ -1,0 +1,8 @@
+use Rattle.std.proofs.Common.{◌≡◌, Some}
+use Rattle.trees.specs.Trees.{Tree}
+use Rattle.book.specs.Shown.{book_concludes}
+use Rattle.book_tests.specs.Stated.{function_said, number_said}
+use Rattle.book_tests.proofs.growth.applications.Given as goal
+
+abbrev pub invariant-loop : goal.invariant-loop
+invariant-loop l = (book_concludes l.book l.function.0 ≡ Some function_said) × ((t : Tree) × (book_concludes l.book l.number.0 ≡ Some (number_said t)))
