@@ -26,4 +26,4 @@ abbrev pub Gives : Statement → Contents → Contents → NodeId → Derive →
 Gives s old new ctx step derived =
     (things : List Thing) → MayCall s old ctx.0 step.parts step.premises things
     → meanings (book_concludes new) (derived.typing.0 ∷ derived.equations)
-        ≡ Some (conclusions_at s things)
+    ≡ Some (conclusions_at s things)

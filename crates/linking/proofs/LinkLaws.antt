@@ -199,11 +199,13 @@ module _ (before : List ModuleText) (x : ModuleText) (s : Linker) (h : HasLinked
           let next_new : new.codes.next ≡ scope.next + length (block x.bytes.items (defs_in x) (words (definitions (codes_in s.codes) []).value scope.names)).stated =
           kept.next_is ∙ resolved.counted (definitions (codes_in s.codes) []).value h.top in
           let same : K ≡ (definitions (codes_in new.codes) []).value = sym (ap (λ m. m.value) all_is) in
-          let one : Stand K new.codes.next (and_known (known_after [] before) x) (kept.known ∷ reverse s.known.items) =
-          (kept.imports_are ∙ wants flags are, defs_kept,
-           subst (AreEarlier new.codes.next) (sym kept.names_are) (subst (λ n. AreEarlier n (bound_by x.bytes.items (codes_in codes))) (sym next_new) leaves.below),
-           stand_kept (definitions (codes_in s.codes) []).value K s.codes.next new.codes.next (known_after [] before) (reverse s.known.items)
-               (λ n l. leaves.kept n (let e = sees.next_is in omega arith)) (let e = next_new in let d = sees.next_is in omega arith) h.stand) in
+          let one : Stand K new.codes.next (and_known (known_after [] before) x) (kept.known ∷ reverse s.known.items) = (
+            kept.imports_are ∙ wants flags are,
+            defs_kept,
+            subst (AreEarlier new.codes.next) (sym kept.names_are) (subst (λ n. AreEarlier n (bound_by x.bytes.items (codes_in codes))) (sym next_new) leaves.below),
+            stand_kept (definitions (codes_in s.codes) []).value K s.codes.next new.codes.next (known_after [] before) (reverse s.known.items)
+                (λ n l. leaves.kept n (let e = sees.next_is in omega arith)) (let e = next_new in let d = sees.next_is in omega arith) h.stand,
+          ) in
           subst (λ G. Stand G new.codes.next (known_after [] (before ++ x ∷ [])) (reverse new.known.items)) same
           (subst (λ m. Stand K new.codes.next m (reverse new.known.items)) (sym (known_more [] before x))
           (subst (Stand K new.codes.next (and_known (known_after [] before) x)) (sym (ap reverse kept.all_known ∙ reverse-append s.known.items (kept.known ∷ []))) one))

@@ -285,9 +285,11 @@ pub gathers_none : (known : List Kept) (imports wanted : List Bool) (found : Lis
     → Gathers known imports found names
 gathers_none known imports wanted found names same none f = record {
   gathers = λ H next ms wants stand are.
-      let h = f.finds H next ms wants stand (same ∙ are) in
-      (ap (λ ns. all_words H found ++ words H ns) none ∙ append_empty (all_words H found) ∙ h.0, h.1,
-       λ k d l. absurd (let e = ap length none in omega arith));
+      let h = f.finds H next ms wants stand (same ∙ are) in (
+        ap (λ ns. all_words H found ++ words H ns) none ∙ append_empty (all_words H found) ∙ h.0,
+        h.1,
+        λ k d l. absurd (let e = ap length none in omega arith),
+      );
 }
 
 pub gathers_more : (known : List Kept) (imports : List Bool) (found fs : List (Bor Kept)) (k : Bor Kept) (names more : List ScopeName) → found ≡ fs ++ k ∷ [] → more ≡ names ++ k.now.names
@@ -295,13 +297,14 @@ pub gathers_more : (known : List Kept) (imports : List Bool) (found fs : List (B
 gathers_more known imports found fs k names more popped e g = record {
   gathers = λ H next ms wants stand are.
       let h = g.gathers H next ms wants stand are in
-      let earlier : All (λ (x : Bor Kept). AreEarlier next x.now.names) (fs ++ k ∷ []) = subst (All (λ (x : Bor Kept). AreEarlier next x.now.names)) popped h.1 in
-      (ap (λ ns. all_words H fs ++ words H ns) e ∙ ap (λ ws. all_words H fs ++ ws) (words_append H names k.now.names)
-          ∙ sym (append_assoc (all_words H fs) (words H k.now.names) (words H names))
-          ∙ ap (λ ws. ws ++ words H names) (ap (λ ws. all_words H fs ++ ws) (sym (append_empty (words H k.now.names))) ∙ sym (flat_map-append (λ (x : Bor Kept). words H x.now.names) fs (k ∷ [])))
-          ∙ ap (λ ks. all_words H ks ++ words H names) (sym popped) ∙ h.0,
-       all_first (λ (x : Bor Kept). AreEarlier next x.now.names) fs (k ∷ []) earlier,
-       subst (AreEarlier next) (sym e) (all_append (λ n. n.def < next) names k.now.names h.2 (all_last (λ (x : Bor Kept). AreEarlier next x.now.names) fs k earlier)));
+      let earlier : All (λ (x : Bor Kept). AreEarlier next x.now.names) (fs ++ k ∷ []) = subst (All (λ (x : Bor Kept). AreEarlier next x.now.names)) popped h.1 in (
+        ap (λ ns. all_words H fs ++ words H ns) e ∙ ap (λ ws. all_words H fs ++ ws) (words_append H names k.now.names)
+            ∙ sym (append_assoc (all_words H fs) (words H k.now.names) (words H names))
+            ∙ ap (λ ws. ws ++ words H names) (ap (λ ws. all_words H fs ++ ws) (sym (append_empty (words H k.now.names))) ∙ sym (flat_map-append (λ (x : Bor Kept). words H x.now.names) fs (k ∷ [])))
+            ∙ ap (λ ks. all_words H ks ++ words H names) (sym popped) ∙ h.0,
+        all_first (λ (x : Bor Kept). AreEarlier next x.now.names) fs (k ∷ []) earlier,
+        subst (AreEarlier next) (sym e) (all_append (λ n. n.def < next) names k.now.names h.2 (all_last (λ (x : Bor Kept). AreEarlier next x.now.names) fs k earlier)),
+      );
 }
 
 pub gathers_end : (known : List Kept) (imports : List Bool) (found : List (Bor Kept)) (names : List ScopeName) (next : ℕ) (scope : ScopeOf) → found ≡ [] → scope.names ≡ names → scope.next ≡ next

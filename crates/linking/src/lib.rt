@@ -13,4 +13,3 @@ mod linked;
 mod reaching;
 
 pub use linked::{LinkFault, link};
-

@@ -116,9 +116,10 @@ numbers_rise (c ∷ cs) H k e =
     let here : l.last.name ≡ k + length l.before = last_number l.before l.last k (subst (λ xs. map name xs ≡ count_from (length xs) k) l.stated h.0) in
     let count : length first ≡ length l.before + 1 = ap length l.stated ∙ length_append l.before (l.last ∷ []) in
     let next : k + length first ≡ suc n = let a = here in let b = l.numbered in let d = count in omega arith in
-    let total : k + length first + length rest ≡ k + length (first ++ rest) = let d = length_append first rest in omega arith in
-    (let a = here in let b = l.numbered in omega arith,
-     subst (λ m. Rise m (numbers_of cs) (k + length (first ++ rest))) next (subst (λ m. Rise (k + length first) (numbers_of cs) m) total (numbers_rise cs K (k + length first) h.1)))
+    let total : k + length first + length rest ≡ k + length (first ++ rest) = let d = length_append first rest in omega arith in (
+      let a = here in let b = l.numbered in omega arith,
+      subst (λ m. Rise m (numbers_of cs) (k + length (first ++ rest))) next (subst (λ m. Rise (k + length first) (numbers_of cs) m) total (numbers_rise cs K (k + length first) h.1)),
+    )
 
 -- bodies by their numbers
 

@@ -13,7 +13,7 @@ loop-is_wanted-preserved-in-Continue-1 c =
     let long : c.pop.new.self.len ≡ length new = c.pop.new.self.ok.0 ∙ sym (ap length is ∙ either_length ws k.imports.items) in
     subst (Goes c.args.known.now c.args.wanted.items (take c.pop.new.self.len (new ++ drop (length new) ws))) (sym c.in_ok-push.ensures.items)
     (goes_on c.args.known.now c.args.wanted.items c.loop-is_wanted.wanted.items c.loop-is_wanted.found.items ws c.in-Some.is_wanted c.in-Some.ensures.items k k here c.loop-is_wanted.invariant
-        (take c.pop.new.self.len (new ++ drop (length new) ws)) _ c.if-is_wanted.true refl (written_whole c.pop.new.self.len new ws long ∙ is))
+    (take c.pop.new.self.len (new ++ drop (length new) ws)) _ c.if-is_wanted.true refl (written_whole c.pop.new.self.len new ws long ∙ is))
 
 pub loop-is_wanted-preserved : goal.loop-is_wanted-preserved
 loop-is_wanted-preserved c =
