@@ -83,7 +83,8 @@ zeroing_parts = AContext (number trees) ∷ ASubst (to_zero trees) ∷ []
 
 abbrev pub variables_statement : Statement
 variables_statement =
-    stated none (given patterns (function_variable patterns ∷ a_number patterns (patterns.var 0) ∷ []))
+    let function = function_variable patterns in
+    stated none (given patterns (function ∷ a_number patterns (patterns.var 0) ∷ []))
 
 abbrev pub function_said : Judgement
 function_said = function_variable trees

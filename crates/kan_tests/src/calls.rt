@@ -195,8 +195,8 @@ pub fn contraction(book: &mut Book) -> Result<Call, AllocError>
     Ok(call_of(parts, nodes.as_slice()))
 }
 
-/// The parts of an extension along an equivalence of numbers that is a variable, in this context: an
-/// element of its fiber at zero, from the end 0 of a name.
+/// The parts of an extension along an equivalence of numbers that is a variable, in this context:
+/// an element of its fiber at zero, from the end 0 of a name.
 fn raised_parts(book: &mut Book, ctx: u64) -> Result<Few, AllocError>
     requires { book_means book.old ctx ≡ Some (AContext (of_fiber trees)) }
     ensures extends { IfOk result (λ parts. Extends book.old book.new) }

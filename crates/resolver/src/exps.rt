@@ -14,8 +14,8 @@ use std::alloc::AllocError;
 use syntax::Exp;
 
 impl<'a> Resolver<'a> {
-    /// The code of an expression, by its form. Each form of several parts has a function of its own,
-    /// so that deep texts take little stack.
+    /// The code of an expression, by its form. Each form of several parts has a function of its
+    /// own, so that deep texts take little stack.
     #[cycle(resolve)]
     pub(crate) fn exp(&self, place: &mut Place<'a>, exp: &Exp) -> Result<Code, AllocError>
         ensures { IfOk result (λ c. Resolves place.old place.new

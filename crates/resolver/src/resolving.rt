@@ -2,7 +2,8 @@
 
 ghost use Rattle.std.specs.Prelude.{◌≡◌, [], ◌∷◌, ◌++◌, IfErr, IfOk, OnErr, OnOk};
 ghost use Rattle.syntax.specs.View.{module_of, tree_of};
-ghost use Rattle.resolver.specs.Resolved.{AreCodes, AreEarlier, defs_in, IsCode, IsFault, IsFaultOf};
+ghost use Rattle.resolver.specs.Resolved.{AreCodes, AreEarlier, IsCode, IsFault, IsFaultOf};
+ghost use Rattle.resolver.specs.Resolved.{defs_in};
 
 use codes::{Code, CodeDef};
 use references::References;
