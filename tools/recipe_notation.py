@@ -176,6 +176,9 @@ FIBER = "sig T[shift 2] (pathp A[shift 4] (var 1) (app (var 2) (var 0)))"
 EQUIV = Things("sig (pi T A+) (pi A+ (sig F (pi F+ (pathp F[shift 3] (var 1) (var 0)))))",
                {"F": Things(FIBER, {}).tree()}).tree()
 
+# `motive_step P`, written out.
+MOTIVE_STEP = Things("pi nat (pi P P[push (shift 2) (suc (var 1))])", {}).tree()
+
 
 def normal(thing, at):
     """The normal form of a thing, where parts are these normal forms."""
@@ -188,6 +191,8 @@ def normal(thing, at):
         return ("make", rest[0], tuple(normal(kid, at) for kid in rest[1]))
     if word == "called" and rest[0] == "equiv":
         return normal(EQUIV, {part: normal(tree, at) for part, tree in zip("TA", rest[1])})
+    if word == "derived" and rest[0] == "motive_step":
+        return normal(MOTIVE_STEP, {"P": normal(rest[1][0], at)})
     if word in ("derived", "called"):
         raise ValueError(f"{rest[0]} is not written out")
     if word == "weakened":

@@ -21,6 +21,15 @@ CRATES = {
         "restrict_ty0", "restrict_ty1", "restrict_tm0", "restrict_tm1", "cover_ty", "cover_tm",
         "lam_cong", "pair_cong", "plam_cong", "sys_cong", "glue_cong",
     ],
+    "typing_rules": [
+        "no_entries", "with_entry", "with_name", "nothing_done", "past_variable", "past_name",
+        "under_variable", "under_name", "composed", "type_instance", "term_instance", "variable",
+        "universe_type", "numbers_type", "zero_term", "successor_term", "small_type", "pi_type",
+        "pi_small", "sig_type", "sig_small", "function", "pushed", "applied", "first", "second",
+        "pair_term", "path_term", "path_applied", "line_ends", "path_type", "path_small",
+        "transported", "motive_start", "motive_step", "recursion", "path_in_universe",
+        "family_of_numbers",
+    ],
     "book_tests": ["two", "successor", "constant", "twice", "variables"],
     "kan_tests": [
         "fill_faces", "fill_lines", "contr_variable", "pres_numbers", "equiv_variable",
@@ -29,6 +38,10 @@ CRATES = {
 }
 EARLIER = {"pres": ["fill"], "equiv": ["contr"]}
 EARLIER |= {name: CRATES["kan_fill"] for name in CRATES["kan_tests"]}
+
+# The crates whose tables read the parts of a recipe from its premises, where these name them, so
+# that a call passes the others alone, which come first.
+READ = {"typing_rules"}
 
 WIDTH = 100
 MOST_PARTS, MOST_WANTED, MOST_PREMISES, MOST_KIDS = 10, 7, 16, 4
@@ -41,8 +54,8 @@ def padded(numbers, count):
 class Table:
     """The rows of a recipe. A thing has one row, which stands before the first that names it."""
 
-    def __init__(self, recipe):
-        self.recipe, self.rows, self.count = recipe, [], 0
+    def __init__(self, recipe, reads=False):
+        self.recipe, self.rows, self.count, self.reads = recipe, [], 0, reads
         self.things, self.nodes, self.given = {}, {}, {}
         self.used = {"Row": set(), "families": {}}
         for node in recipe.nodes:
@@ -64,7 +77,7 @@ class Table:
         """The row of a thing, after those of its parts."""
         word, *rest = thing
         if word == "part":
-            return f"Part({self.recipe.parts.index(rest[0])})"
+            return self.read(thing) or f"Part({self.recipe.parts.index(rest[0])})"
         if word == "var":
             return f"Var({rest[0]})"
         if word in ("id", "up", "shift"):
@@ -82,6 +95,15 @@ class Table:
                 "then": "Then", "with_var": "WithVar", "with_name": "WithName",
                 "with_face": "WithFace"}[word]
         return f"{name}({', '.join(str(self.thing(part)) for part in rest)})"
+
+    def read(self, part):
+        """The row that reads a part from a premise, if one names it."""
+        premises = [node for node in self.recipe.nodes if node.word == "premise"]
+        for node in premises if self.reads else []:
+            places = self.recipe.wants[int(node.at)][1]
+            if part in places and node.name in self.nodes:
+                return f"Field({self.nodes[node.name]}, {places.index(part)})"
+        return None
 
     def node(self, node):
         """The row of a node, or the first one of those that an earlier recipe gives."""
@@ -157,7 +179,7 @@ def main():
         text = (ROOT / "tools" / "recipes" / f"{name}.txt").read_text()
         recipes[name] = Recipe(text, {other: recipes[other] for other in EARLIER.get(name, [])})
         to = ROOT / "crates" / crate / "src" / f"{name}.rt"
-        to.write_text(Table(recipes[name]).written())
+        to.write_text(Table(recipes[name], crate in READ).written())
 
 
 if __name__ == "__main__":

@@ -1,0 +1,5 @@
+pub mod Known
+pub mod Literal
+pub mod Typings
+pub mod Direct
+pub mod Examples
