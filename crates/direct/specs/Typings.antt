@@ -196,8 +196,8 @@ under_entry x m a = record {
   is_small = λ G. in_universe a (x ∷ G);
 }
 
--- A term that is applied to the name or variable is a type there where it is a path in the universe,
--- or a family of types of the numbers.
+-- A term that is applied to the name or variable is a type there where it is a path in the
+-- universe, or a family of types of the numbers.
 
 abbrev pub path_in_universe : Typing → Known → Bool
 path_in_universe a G =

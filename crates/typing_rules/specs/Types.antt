@@ -1,13 +1,18 @@
 -- How types are formed, in every language.
-use Rattle.std.specs.Prelude.{[], ◌∷◌}
-use Rattle.trees.specs.declared.kind.PartKind.TheVariants.{Context, Term}
+use Rattle.std.specs.Prelude.{List, [], ◌∷◌}
+use Rattle.trees.specs.declared.op.Op.TheVariants as op
+use Rattle.trees.specs.declared.kind.PartKind.{PartKind}
+use Rattle.trees.specs.declared.kind.PartKind.TheVariants.{Context, Subst, Term}
 use Rattle.trees.specs.Language.{Language, Ctx, Tm, Ty}
 use Rattle.patterns.specs.Patterns.{patterns}
 use Rattle.rules.specs.Table.{app, at, i0, i1, nat, papp, pathp, pi, sig, suc, universe, weakened}
 use Rattle.recipes.specs.Statements.{Stated, Statement, stated}
 
 -- The universe is a type.
-abbrev pub universe_type : (L : Language) → Stated L (Context ∷ [])
+abbrev universe_type_kinds : List PartKind
+universe_type_kinds = Context ∷ []
+
+abbrev pub universe_type : (L : Language) → Stated L universe_type_kinds
 universe_type L = λ H. record {
   wants = Ctx H ∷ [];
   sides = [];
@@ -15,10 +20,13 @@ universe_type L = λ H. record {
 }
 
 abbrev pub universe_type_statement : Statement
-universe_type_statement = stated (Context ∷ []) (universe_type patterns)
+universe_type_statement = stated universe_type_kinds (universe_type patterns)
 
 -- The numbers are a type.
-abbrev pub numbers_type : (L : Language) → Stated L (Context ∷ [])
+abbrev numbers_type_kinds : List PartKind
+numbers_type_kinds = Context ∷ []
+
+abbrev pub numbers_type : (L : Language) → Stated L numbers_type_kinds
 numbers_type L = λ H. record {
   wants = Ctx H ∷ [];
   sides = [];
@@ -26,10 +34,13 @@ numbers_type L = λ H. record {
 }
 
 abbrev pub numbers_type_statement : Statement
-numbers_type_statement = stated (Context ∷ []) (numbers_type patterns)
+numbers_type_statement = stated numbers_type_kinds (numbers_type patterns)
 
 -- What is in the universe is a type.
-abbrev pub small_type : (L : Language) → Stated L (Context ∷ Term ∷ [])
+abbrev small_type_kinds : List PartKind
+small_type_kinds = Context ∷ Term ∷ []
+
+abbrev pub small_type : (L : Language) → Stated L small_type_kinds
 small_type L = λ H A. record {
   wants = Tm H A (universe L) ∷ [];
   sides = [];
@@ -37,10 +48,13 @@ small_type L = λ H A. record {
 }
 
 abbrev pub small_type_statement : Statement
-small_type_statement = stated (Context ∷ Term ∷ []) (small_type patterns)
+small_type_statement = stated small_type_kinds (small_type patterns)
 
 -- A type of functions.
-abbrev pub pi_type : (L : Language) → Stated L (Context ∷ Term ∷ Term ∷ [])
+abbrev pi_type_kinds : List PartKind
+pi_type_kinds = Context ∷ Term ∷ Term ∷ []
+
+abbrev pub pi_type : (L : Language) → Stated L pi_type_kinds
 pi_type L = λ H A B. record {
   wants = Ty H A ∷ Ty (L.with_var H A) B ∷ [];
   sides = [];
@@ -48,10 +62,13 @@ pi_type L = λ H A B. record {
 }
 
 abbrev pub pi_type_statement : Statement
-pi_type_statement = stated (Context ∷ Term ∷ Term ∷ []) (pi_type patterns)
+pi_type_statement = stated pi_type_kinds (pi_type patterns)
 
 -- A type of functions in the universe.
-abbrev pub pi_small : (L : Language) → Stated L (Context ∷ Term ∷ Term ∷ [])
+abbrev pi_small_kinds : List PartKind
+pi_small_kinds = Context ∷ Term ∷ Term ∷ []
+
+abbrev pub pi_small : (L : Language) → Stated L pi_small_kinds
 pi_small L = λ H A B. record {
   wants = Tm H A (universe L) ∷ Tm (L.with_var H A) B (universe L) ∷ [];
   sides = [];
@@ -59,10 +76,13 @@ pi_small L = λ H A B. record {
 }
 
 abbrev pub pi_small_statement : Statement
-pi_small_statement = stated (Context ∷ Term ∷ Term ∷ []) (pi_small patterns)
+pi_small_statement = stated pi_small_kinds (pi_small patterns)
 
 -- A type of pairs.
-abbrev pub sig_type : (L : Language) → Stated L (Context ∷ Term ∷ Term ∷ [])
+abbrev sig_type_kinds : List PartKind
+sig_type_kinds = Context ∷ Term ∷ Term ∷ []
+
+abbrev pub sig_type : (L : Language) → Stated L sig_type_kinds
 sig_type L = λ H A B. record {
   wants = Ty H A ∷ Ty (L.with_var H A) B ∷ [];
   sides = [];
@@ -70,10 +90,13 @@ sig_type L = λ H A B. record {
 }
 
 abbrev pub sig_type_statement : Statement
-sig_type_statement = stated (Context ∷ Term ∷ Term ∷ []) (sig_type patterns)
+sig_type_statement = stated sig_type_kinds (sig_type patterns)
 
 -- A type of pairs in the universe.
-abbrev pub sig_small : (L : Language) → Stated L (Context ∷ Term ∷ Term ∷ [])
+abbrev sig_small_kinds : List PartKind
+sig_small_kinds = Context ∷ Term ∷ Term ∷ []
+
+abbrev pub sig_small : (L : Language) → Stated L sig_small_kinds
 sig_small L = λ H A B. record {
   wants = Tm H A (universe L) ∷ Tm (L.with_var H A) B (universe L) ∷ [];
   sides = [];
@@ -81,10 +104,13 @@ sig_small L = λ H A B. record {
 }
 
 abbrev pub sig_small_statement : Statement
-sig_small_statement = stated (Context ∷ Term ∷ Term ∷ []) (sig_small patterns)
+sig_small_statement = stated sig_small_kinds (sig_small patterns)
 
 -- A type of paths.
-abbrev pub path_type : (L : Language) → Stated L (Context ∷ Term ∷ Term ∷ Term ∷ [])
+abbrev path_type_kinds : List PartKind
+path_type_kinds = Context ∷ Term ∷ Term ∷ Term ∷ []
+
+abbrev pub path_type : (L : Language) → Stated L path_type_kinds
 path_type L = λ H A u v. record {
   wants = Ty (L.with_name H) A ∷ Tm H u (at L A (i0 L)) ∷ Tm H v (at L A (i1 L)) ∷ [];
   sides = [];
@@ -92,10 +118,13 @@ path_type L = λ H A u v. record {
 }
 
 abbrev pub path_type_statement : Statement
-path_type_statement = stated (Context ∷ Term ∷ Term ∷ Term ∷ []) (path_type patterns)
+path_type_statement = stated path_type_kinds (path_type patterns)
 
 -- A type of paths in the universe.
-abbrev pub path_small : (L : Language) → Stated L (Context ∷ Term ∷ Term ∷ Term ∷ [])
+abbrev path_small_kinds : List PartKind
+path_small_kinds = Context ∷ Term ∷ Term ∷ Term ∷ []
+
+abbrev pub path_small : (L : Language) → Stated L path_small_kinds
 path_small L = λ H A u v. record {
   wants = Tm (L.with_name H) A (universe L) ∷ Tm H u (at L A (i0 L)) ∷ Tm H v (at L A (i1 L)) ∷ [];
   sides = [];
@@ -103,10 +132,13 @@ path_small L = λ H A u v. record {
 }
 
 abbrev pub path_small_statement : Statement
-path_small_statement = stated (Context ∷ Term ∷ Term ∷ Term ∷ []) (path_small patterns)
+path_small_statement = stated path_small_kinds (path_small patterns)
 
 -- The type of the step of a recursion.
-abbrev pub motive_step : (L : Language) → Stated L (Context ∷ Term ∷ [])
+abbrev motive_step_kinds : List PartKind
+motive_step_kinds = Context ∷ Term ∷ []
+
+abbrev pub motive_step : (L : Language) → Stated L motive_step_kinds
 motive_step L = λ H P. record {
   wants = Ctx H ∷ Ty (L.with_var H (nat L)) P ∷ [];
   sides = [];
@@ -114,10 +146,13 @@ motive_step L = λ H P. record {
 }
 
 abbrev pub motive_step_statement : Statement
-motive_step_statement = stated (Context ∷ Term ∷ []) (motive_step patterns)
+motive_step_statement = stated motive_step_kinds (motive_step patterns)
 
 -- A path of types, at a new name.
-abbrev pub path_in_universe : (L : Language) → Stated L (Term ∷ Term ∷ Context ∷ Term ∷ [])
+abbrev path_in_universe_kinds : List PartKind
+path_in_universe_kinds = Term ∷ Term ∷ Context ∷ Term ∷ []
+
+abbrev pub path_in_universe : (L : Language) → Stated L path_in_universe_kinds
 path_in_universe L = λ u v H c. record {
   wants = Ctx H ∷ Tm H c (pathp L (universe L) u v) ∷ [];
   sides = [];
@@ -125,10 +160,13 @@ path_in_universe L = λ u v H c. record {
 }
 
 abbrev pub path_in_universe_statement : Statement
-path_in_universe_statement = stated (Term ∷ Term ∷ Context ∷ Term ∷ []) (path_in_universe patterns)
+path_in_universe_statement = stated path_in_universe_kinds (path_in_universe patterns)
 
 -- A family of types of the numbers, at a new number.
-abbrev pub family_of_numbers : (L : Language) → Stated L (Context ∷ Term ∷ [])
+abbrev family_of_numbers_kinds : List PartKind
+family_of_numbers_kinds = Context ∷ Term ∷ []
+
+abbrev pub family_of_numbers : (L : Language) → Stated L family_of_numbers_kinds
 family_of_numbers L = λ H c. record {
   wants = Ctx H ∷ Tm H c (pi L (nat L) (universe L)) ∷ [];
   sides = [];
@@ -136,4 +174,4 @@ family_of_numbers L = λ H c. record {
 }
 
 abbrev pub family_of_numbers_statement : Statement
-family_of_numbers_statement = stated (Context ∷ Term ∷ []) (family_of_numbers patterns)
+family_of_numbers_statement = stated family_of_numbers_kinds (family_of_numbers patterns)

@@ -6,7 +6,7 @@ use theory::ContextRule::SubVar;
 use theory::PiRule::App;
 use theory::RuleName::{Contexts, Pi};
 
-/// A function under a substitution, applied, and the substitution that takes its codomain to the type.
+/// A function under a substitution, applied, and the substitution that takes its codomain there.
 /// Its parts are H d G A B f a.
 pub static APPLIED: &[Row] = table! {
     // 0: d : H to G

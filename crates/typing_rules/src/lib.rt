@@ -10,9 +10,36 @@ ghost use Rattle.recipes.specs.Derivations.{Derives, StatesAt};
 ghost use Rattle.trees.specs.Trees.{Tree, Subst};
 ghost use Rattle.trees.specs.Judgements.{Context, trees};
 ghost use Rattle.trees.specs.Things.{AContext, ASubst, ATree};
-ghost use Rattle.typing_rules.specs.Places.{composed, line_ends, motive_start, no_entries, nothing_done, past_name, past_variable, pushed, term_instance, type_instance, under_name, under_variable, variable, with_entry, with_name, composed_statement, line_ends_statement, motive_start_statement, no_entries_statement, nothing_done_statement, past_name_statement, past_variable_statement, pushed_statement, term_instance_statement, type_instance_statement, under_name_statement, under_variable_statement, variable_statement, with_entry_statement, with_name_statement};
-ghost use Rattle.typing_rules.specs.Types.{family_of_numbers, motive_step, numbers_type, path_in_universe, path_small, path_type, pi_small, pi_type, sig_small, sig_type, small_type, universe_type, family_of_numbers_statement, motive_step_statement, numbers_type_statement, path_in_universe_statement, path_small_statement, path_type_statement, pi_small_statement, pi_type_statement, sig_small_statement, sig_type_statement, small_type_statement, universe_type_statement};
-ghost use Rattle.typing_rules.specs.Terms.{applied, first, function, pair_term, path_applied, path_term, recursion, second, successor_term, transported, zero_term, applied_statement, first_statement, function_statement, pair_term_statement, path_applied_statement, path_term_statement, recursion_statement, second_statement, successor_term_statement, transported_statement, zero_term_statement};
+ghost use Rattle.typing_rules.specs.Places.{composed, line_ends, motive_start, no_entries};
+ghost use Rattle.typing_rules.specs.Places.{nothing_done, past_name, past_variable, pushed};
+ghost use Rattle.typing_rules.specs.Places.{term_instance, type_instance, under_name};
+ghost use Rattle.typing_rules.specs.Places.{under_variable, variable, with_entry, with_name};
+ghost use Rattle.typing_rules.specs.Places.{composed_statement, line_ends_statement};
+ghost use Rattle.typing_rules.specs.Places.{motive_start_statement, no_entries_statement};
+ghost use Rattle.typing_rules.specs.Places.{nothing_done_statement, past_name_statement};
+ghost use Rattle.typing_rules.specs.Places.{past_variable_statement, pushed_statement};
+ghost use Rattle.typing_rules.specs.Places.{term_instance_statement, type_instance_statement};
+ghost use Rattle.typing_rules.specs.Places.{under_name_statement, under_variable_statement};
+ghost use Rattle.typing_rules.specs.Places.{variable_statement, with_entry_statement};
+ghost use Rattle.typing_rules.specs.Places.{with_name_statement};
+ghost use Rattle.typing_rules.specs.Types.{family_of_numbers, motive_step, numbers_type};
+ghost use Rattle.typing_rules.specs.Types.{path_in_universe, path_small, path_type, pi_small};
+ghost use Rattle.typing_rules.specs.Types.{pi_type, sig_small, sig_type, small_type};
+ghost use Rattle.typing_rules.specs.Types.{universe_type, family_of_numbers_statement};
+ghost use Rattle.typing_rules.specs.Types.{motive_step_statement, numbers_type_statement};
+ghost use Rattle.typing_rules.specs.Types.{path_in_universe_statement, path_small_statement};
+ghost use Rattle.typing_rules.specs.Types.{path_type_statement, pi_small_statement};
+ghost use Rattle.typing_rules.specs.Types.{pi_type_statement, sig_small_statement};
+ghost use Rattle.typing_rules.specs.Types.{sig_type_statement, small_type_statement};
+ghost use Rattle.typing_rules.specs.Types.{universe_type_statement};
+ghost use Rattle.typing_rules.specs.Terms.{applied, first, function, pair_term, path_applied};
+ghost use Rattle.typing_rules.specs.Terms.{path_term, recursion, second, successor_term};
+ghost use Rattle.typing_rules.specs.Terms.{transported, zero_term, applied_statement};
+ghost use Rattle.typing_rules.specs.Terms.{first_statement, function_statement};
+ghost use Rattle.typing_rules.specs.Terms.{pair_term_statement, path_applied_statement};
+ghost use Rattle.typing_rules.specs.Terms.{path_term_statement, recursion_statement};
+ghost use Rattle.typing_rules.specs.Terms.{second_statement, successor_term_statement};
+ghost use Rattle.typing_rules.specs.Terms.{transported_statement, zero_term_statement};
 
 /// The rows of a table, each on a line of its own however long.
 macro_rules! table {
@@ -102,17 +129,23 @@ pub fn places_are_derived()
     ensures no_entries { Derives [] no_entries_statement NO_ENTRIES.now NO_ENTRIES_GIVES.now }
     ensures with_entry { Derives [] with_entry_statement WITH_ENTRY.now WITH_ENTRY_GIVES.now }
     ensures with_name { Derives [] with_name_statement WITH_NAME.now WITH_NAME_GIVES.now }
-    ensures nothing_done { Derives [] nothing_done_statement NOTHING_DONE.now NOTHING_DONE_GIVES.now }
-    ensures past_variable { Derives [] past_variable_statement PAST_VARIABLE.now PAST_VARIABLE_GIVES.now }
+    ensures nothing_done { Derives [] nothing_done_statement
+        NOTHING_DONE.now NOTHING_DONE_GIVES.now }
+    ensures past_variable { Derives [] past_variable_statement
+        PAST_VARIABLE.now PAST_VARIABLE_GIVES.now }
     ensures past_name { Derives [] past_name_statement PAST_NAME.now PAST_NAME_GIVES.now }
-    ensures under_variable { Derives [] under_variable_statement UNDER_VARIABLE.now UNDER_VARIABLE_GIVES.now }
+    ensures under_variable { Derives [] under_variable_statement
+        UNDER_VARIABLE.now UNDER_VARIABLE_GIVES.now }
     ensures under_name { Derives [] under_name_statement UNDER_NAME.now UNDER_NAME_GIVES.now }
     ensures composed { Derives [] composed_statement COMPOSED.now COMPOSED_GIVES.now }
     ensures pushed { Derives [] pushed_statement PUSHED.now PUSHED_GIVES.now }
     ensures line_ends { Derives [] line_ends_statement LINE_ENDS.now LINE_ENDS_GIVES.now }
-    ensures motive_start { Derives [] motive_start_statement MOTIVE_START.now MOTIVE_START_GIVES.now }
-    ensures type_instance { Derives [] type_instance_statement TYPE_INSTANCE.now TYPE_INSTANCE_GIVES.now }
-    ensures term_instance { Derives [] term_instance_statement TERM_INSTANCE.now TERM_INSTANCE_GIVES.now }
+    ensures motive_start { Derives [] motive_start_statement
+        MOTIVE_START.now MOTIVE_START_GIVES.now }
+    ensures type_instance { Derives [] type_instance_statement
+        TYPE_INSTANCE.now TYPE_INSTANCE_GIVES.now }
+    ensures term_instance { Derives [] term_instance_statement
+        TERM_INSTANCE.now TERM_INSTANCE_GIVES.now }
     ensures variable { Derives [] variable_statement VARIABLE.now VARIABLE_GIVES.now }
 {}
 
@@ -179,8 +212,10 @@ pub fn places_at_trees()
 
 /// Types, and types in the universe.
 pub fn types_are_derived()
-    ensures universe_type { Derives [] universe_type_statement UNIVERSE_TYPE.now UNIVERSE_TYPE_GIVES.now }
-    ensures numbers_type { Derives [] numbers_type_statement NUMBERS_TYPE.now NUMBERS_TYPE_GIVES.now }
+    ensures universe_type { Derives [] universe_type_statement
+        UNIVERSE_TYPE.now UNIVERSE_TYPE_GIVES.now }
+    ensures numbers_type { Derives [] numbers_type_statement
+        NUMBERS_TYPE.now NUMBERS_TYPE_GIVES.now }
     ensures small_type { Derives [] small_type_statement SMALL_TYPE.now SMALL_TYPE_GIVES.now }
     ensures pi_type { Derives [] pi_type_statement PI_TYPE.now PI_TYPE_GIVES.now }
     ensures pi_small { Derives [] pi_small_statement PI_SMALL.now PI_SMALL_GIVES.now }
@@ -189,8 +224,10 @@ pub fn types_are_derived()
     ensures path_type { Derives [] path_type_statement PATH_TYPE.now PATH_TYPE_GIVES.now }
     ensures path_small { Derives [] path_small_statement PATH_SMALL.now PATH_SMALL_GIVES.now }
     ensures motive_step { Derives [] motive_step_statement MOTIVE_STEP.now MOTIVE_STEP_GIVES.now }
-    ensures path_in_universe { Derives [] path_in_universe_statement PATH_IN_UNIVERSE.now PATH_IN_UNIVERSE_GIVES.now }
-    ensures family_of_numbers { Derives [] family_of_numbers_statement FAMILY_OF_NUMBERS.now FAMILY_OF_NUMBERS_GIVES.now }
+    ensures path_in_universe { Derives [] path_in_universe_statement
+        PATH_IN_UNIVERSE.now PATH_IN_UNIVERSE_GIVES.now }
+    ensures family_of_numbers { Derives [] family_of_numbers_statement
+        FAMILY_OF_NUMBERS.now FAMILY_OF_NUMBERS_GIVES.now }
 {}
 
 /// At trees these state what their definitions say there.
@@ -248,14 +285,16 @@ pub fn types_at_trees()
 /// Terms of each form.
 pub fn terms_are_derived()
     ensures zero_term { Derives [] zero_term_statement ZERO_TERM.now ZERO_TERM_GIVES.now }
-    ensures successor_term { Derives [] successor_term_statement SUCCESSOR_TERM.now SUCCESSOR_TERM_GIVES.now }
+    ensures successor_term { Derives [] successor_term_statement
+        SUCCESSOR_TERM.now SUCCESSOR_TERM_GIVES.now }
     ensures function { Derives [] function_statement FUNCTION.now FUNCTION_GIVES.now }
     ensures applied { Derives [] applied_statement APPLIED.now APPLIED_GIVES.now }
     ensures pair_term { Derives [] pair_term_statement PAIR_TERM.now PAIR_TERM_GIVES.now }
     ensures first { Derives [] first_statement FIRST.now FIRST_GIVES.now }
     ensures second { Derives [] second_statement SECOND.now SECOND_GIVES.now }
     ensures path_term { Derives [] path_term_statement PATH_TERM.now PATH_TERM_GIVES.now }
-    ensures path_applied { Derives [] path_applied_statement PATH_APPLIED.now PATH_APPLIED_GIVES.now }
+    ensures path_applied { Derives [] path_applied_statement
+        PATH_APPLIED.now PATH_APPLIED_GIVES.now }
     ensures recursion { Derives [] recursion_statement RECURSION.now RECURSION_GIVES.now }
     ensures transported { Derives [] transported_statement TRANSPORTED.now TRANSPORTED_GIVES.now }
 {}

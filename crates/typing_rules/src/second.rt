@@ -7,7 +7,7 @@ use theory::Op;
 use theory::RuleName::{Contexts, Sigma};
 use theory::SigmaRule::{Fst, Snd};
 
-/// The second component of a pair under a substitution, and the substitution that takes its type there.
+/// The second component of a pair under a substitution, and the one that takes its type there.
 /// Its parts are H d G A B c.
 pub static SECOND: &[Row] = table! {
     // 0: d : H to G
