@@ -16,7 +16,7 @@ ends the reading: both are compared in normal form, with the parts unknown.
 """
 import re
 
-from rule_notation import BINDS, KINDS, OPERATORS, Reader, families, split
+from rule_notation import BINDS, DERIVED, KINDS, OPERATORS, Reader, families, split
 
 LINE = re.compile(r"(\w+)\s+(.*?)\s*by (\S+) ?(.*?)(?: of (.*))?$")
 
@@ -27,6 +27,9 @@ class Things(Reader):
     def __init__(self, text, names):
         super().__init__(text)
         self.names = names
+
+    def tree(self):
+        return written_out(super().tree())
 
     def named(self, thing):
         return self.names.get(thing[1], thing) if thing[0] == "part" else thing
@@ -171,13 +174,32 @@ def trimmed(sub):
     return (pushed, ("rest", count, part, rest))
 
 
-# `equiv T A`, written out.
+# Trees that are made of others, written out.
+
+
+def replaced(thing, by):
+    """A thing with these in the place of its parts."""
+    if isinstance(thing, list):
+        return [replaced(part, by) for part in thing]
+    if not isinstance(thing, tuple):
+        return thing
+    if thing[0] == "part":
+        return by.get(thing[1], thing)
+    return tuple(replaced(part, by) for part in thing)
+
+
+def written_out(thing):
+    if thing[0] == "derived":
+        parts, text = DERIVED[thing[1]]
+        return replaced(Reader(text).tree(), dict(zip(parts, thing[2])))
+    if thing[:2] == ("called", "equiv"):
+        return replaced(EQUIV, dict(zip("TA", thing[2])))
+    return thing
+
+
 FIBER = "sig T[shift 2] (pathp A[shift 4] (var 1) (app (var 2) (var 0)))"
 EQUIV = Things("sig (pi T A+) (pi A+ (sig F (pi F+ (pathp F[shift 3] (var 1) (var 0)))))",
                {"F": Things(FIBER, {}).tree()}).tree()
-
-# `motive_step P`, written out.
-MOTIVE_STEP = Things("pi nat (pi P P[push (shift 2) (suc (var 1))])", {}).tree()
 
 
 def normal(thing, at):
@@ -189,12 +211,10 @@ def normal(thing, at):
         return ("var", rest[0])
     if word == "make":
         return ("make", rest[0], tuple(normal(kid, at) for kid in rest[1]))
-    if word == "called" and rest[0] == "equiv":
-        return normal(EQUIV, {part: normal(tree, at) for part, tree in zip("TA", rest[1])})
-    if word == "derived" and rest[0] == "motive_step":
-        return normal(MOTIVE_STEP, {"P": normal(rest[1][0], at)})
     if word in ("derived", "called"):
-        raise ValueError(f"{rest[0]} is not written out")
+        if written_out(thing) == thing:
+            raise ValueError(f"{rest[0]} is not written out")
+        return normal(written_out(thing), at)
     if word == "weakened":
         return applied(normal(rest[0], at), ((), 1))
     if word == "at":
@@ -251,13 +271,20 @@ class Recipe:
         for line in lines(sections.get("let", "")):
             name, _, said = line.partition(" = ")
             self.names[name] = self.thing(said)
-        self.wants = [judgement(line, self.names) for line in lines(sections["from"])]
-        self.nodes = [self.node(line) for line in lines(sections["rows"])]
-        self.outs = [line.split() for line in lines(sections["gives"])]
+        self.read_rows(sections)
         self.premises = [line.split() for line in lines(sections.get("premises", ""))]
         said = {node.name: node.text for node in self.nodes}
         self.gives = {label: judgement(said[name], self.names) for label, name in self.outs}
         self.check()
+
+    def read_rows(self, sections):
+        self.wants = [judgement(line, self.names) for line in lines(sections["from"])]
+        self.nodes = [self.node(line) for line in lines(sections["rows"])]
+        self.outs = [line.split() for line in lines(sections["gives"])]
+
+    def wanted(self, node):
+        """What a premise has to conclude."""
+        return self.wants[int(node.at)]
 
     def kinds(self):
         return [KINDS.get(part, "Term") for part in self.parts]
@@ -297,7 +324,7 @@ class Recipe:
             if node.text:
                 said[node.name] = normal_judgement(judgement(node.text, self.names), at)
             if node.word == "premise":
-                gives = normal_judgement(self.wants[int(node.at)], at)
+                gives = normal_judgement(self.wanted(node), at)
             elif node.word == "given":
                 gives = given[node.premises[0]][node.at]
             else:

@@ -30,6 +30,12 @@ CRATES = {
         "transported", "motive_start", "motive_step", "recursion", "path_in_universe",
         "family_of_numbers",
     ],
+    "openings": [
+        "open_binder", "open_pathp", "open_glue_type", "open_lam", "open_pair", "open_plam",
+        "open_glue", "open_binder_u", "open_pathp_u", "open_glue_type_u", "up_var", "up_name",
+        "up_face", "fits_pi", "fits_sig", "anchor", "anchor_conv", "beta_asks", "beta_answers",
+    ],
+    "glue_entries": ["equiv_tycong"],
     "book_tests": ["two", "successor", "constant", "twice", "variables"],
     "kan_tests": [
         "fill_faces", "fill_lines", "contr_variable", "pres_numbers", "equiv_variable",
@@ -54,8 +60,9 @@ def padded(numbers, count):
 class Table:
     """The rows of a recipe. A thing has one row, which stands before the first that names it."""
 
-    def __init__(self, recipe, reads=False):
-        self.recipe, self.rows, self.count, self.reads = recipe, [], 0, reads
+    def __init__(self, recipe, earlier=(), reads=False):
+        self.recipe, self.rows, self.count = recipe, [], 0
+        self.earlier, self.reads = earlier, reads
         self.things, self.nodes, self.given = {}, {}, {}
         self.used = {"Row": set(), "families": {}}
         for node in recipe.nodes:
@@ -105,18 +112,22 @@ class Table:
                 return f"Field({self.nodes[node.name]}, {places.index(part)})"
         return None
 
+    def place(self, node):
+        """Which premise it is."""
+        return node.at
+
     def node(self, node):
         """The row of a node, or the first one of those that an earlier recipe gives."""
         if node.word == "given":
             at = [label for label, _ in self.given[node.premises[0]].outs].index(node.at)
             return self.nodes[node.premises[0]] + at
         if node.word == "premise":
-            return self.row(f"Premise({node.at})", node.text)
+            return self.row(f"Premise({self.place(node)})", node.text)
         parts = padded([self.thing(tupled(part)) for part in node.parts], MOST_PARTS)
         premises = [self.nodes[name] for name in node.premises]
         if node.word == "recipe":
             self.given[node.name] = node.rule
-            at = EARLIER[self.recipe.name].index(node.rule.name)
+            at = self.earlier.index(node.rule.name)
             return self.row(f"Derive({at}, {parts}, {padded(premises, MOST_PREMISES)})",
                             node.rule.name, len(node.rule.outs))
         family = node.rule.family
@@ -126,33 +137,45 @@ class Table:
 
     def written(self):
         """The file of the table."""
-        name = self.recipe.name.upper()
-        lines = ["//! Written by tools/write_recipes.py.", "", "use recipes::Row;"]
-        lines.append(f"use recipes::Row::{{{', '.join(sorted(self.used['Row']))}}};")
-        found = sorted(self.used["families"].items(), key=lambda item: item[0].enum)
-        for family, variants in found:
-            lines.append(f"use theory::{family.enum}::{{{', '.join(sorted(variants))}}};")
-        if "Make" in self.used["Row"]:
-            lines.append("use theory::Op;")
-        variants = ", ".join(sorted(family.variant for family, _ in found))
-        lines += [f"use theory::RuleName::{{{variants}}};", ""]
-        lines += [f"/// {line}" for line in self.recipe.about]
+        name, about = self.recipe.name.upper(), list(self.recipe.about)
         if self.recipe.parts:
-            lines.append(f"/// Its parts are {' '.join(self.recipe.parts)}.")
-        lines.append(f"pub static {name}: &[Row] = table! {{")
-        for text, comment in self.rows:
-            lines += wrapped(comment) + broken(f"    {text},")
-        lines += ["};", *self.named(f"{name}_GIVES", "what it gives", self.recipe.outs)]
+            about.append(f"Its parts are {' '.join(self.recipe.parts)}.")
+        lines = [*head([self]), *self.static(name, about)]
+        lines += self.named(f"{name}_GIVES", "what it gives", self.recipe.outs)
         if self.recipe.premises:
             of = "the premises of its last row"
             lines += self.named(f"{name}_PREMISES", of, self.recipe.premises)
         return "\n".join(lines + [""])
+
+    def static(self, name, about):
+        lines = [f"/// {line}" for line in about] + [f"pub static {name}: &[Row] = table! {{"]
+        for text, comment in self.rows:
+            lines += wrapped(comment) + broken(f"    {text},")
+        return [*lines, "};"]
 
     def named(self, name, of, nodes):
         """A list of rows."""
         about = f"The rows of {of}: {', '.join(label for label, _ in nodes)}."
         rows = ", ".join(str(self.nodes[node]) for _, node in nodes)
         return ["", *wrapped(about, "/// ", "/// "), f"pub static {name}: &[u16] = &[{rows}];"]
+
+
+def head(tables, script="write_recipes"):
+    """The first lines of a file of tables: what their rows name."""
+    rows, names = set(), {}
+    for table in tables:
+        rows |= table.used["Row"]
+        for family, variants in table.used["families"].items():
+            names.setdefault(family, set()).update(variants)
+    found = sorted(names.items(), key=lambda item: item[0].enum)
+    lines = [f"//! Written by tools/{script}.py.", "", "use recipes::Row;"]
+    lines.append(f"use recipes::Row::{{{', '.join(sorted(rows))}}};")
+    for family, variants in found:
+        lines.append(f"use theory::{family.enum}::{{{', '.join(sorted(variants))}}};")
+    if "Make" in rows:
+        lines.append("use theory::Op;")
+    variants = ", ".join(sorted(family.variant for family, _ in found))
+    return lines + ([f"use theory::RuleName::{{{variants}}};"] if found else []) + [""]
 
 
 def wrapped(comment, first="    // ", further="    //   "):
@@ -179,7 +202,8 @@ def main():
         text = (ROOT / "tools" / "recipes" / f"{name}.txt").read_text()
         recipes[name] = Recipe(text, {other: recipes[other] for other in EARLIER.get(name, [])})
         to = ROOT / "crates" / crate / "src" / f"{name}.rt"
-        to.write_text(Table(recipes[name], crate in READ).written())
+        table = Table(recipes[name], EARLIER.get(name, []), crate in READ)
+        to.write_text(table.written())
 
 
 if __name__ == "__main__":

@@ -1,0 +1,4 @@
+pub mod ContextNone
+pub mod InstanceNone
+pub mod EqualityNone
+pub mod UniverseNone

@@ -1,0 +1,17 @@
+use Rattle.std.proofs.Common.{subst, sym}
+use Rattle.theory.specs.declared.rule.RuleName.TheVariants.{Universe}
+use Rattle.presuppositions.specs.Entries.{Answers}
+use Rattle.equality_entries.proofs.UniverseNone.{none-label}
+use Rattle.equality_entries.proofs.universe.universe_entry.Goals as goal
+
+pub returns-in-Context : goal.returns-in-Context
+returns-in-Context c = λ earlier. subst (λ l. Answers earlier (Universe c.args.rule) l c.context_of_universe.result) (sym c.in-Context.is) (c.context_of_universe.ensures earlier)
+
+pub returns-in-Left : goal.returns-in-Left
+returns-in-Left c = λ earlier. subst (λ l. Answers earlier (Universe c.args.rule) l c.left_of_universe.result) (sym c.in-Left.is) (c.left_of_universe.ensures earlier)
+
+pub returns-in-Right : goal.returns-in-Right
+returns-in-Right c = λ earlier. subst (λ l. Answers earlier (Universe c.args.rule) l c.right_of_universe.result) (sym c.in-Right.is) (c.right_of_universe.ensures earlier)
+
+pub returns-in-Type : goal.returns-in-Type
+returns-in-Type c = λ earlier. none-label c.args.rule c.args.label c.in-Type.is

@@ -1,0 +1,20 @@
+//! Written by tools/write_entries.py.
+
+use recipes::Row;
+use recipes::Row::{Conclude, Part, Premise};
+use theory::InstanceRule::TySub;
+use theory::RuleName::Instances;
+
+/// `Type` of what tm.sub concludes. Its parts are H d G a A.
+pub static TM_SUB_TYPE: &[Row] = table! {
+    // 0: d : H to G
+    Premise(0),
+    // 1: G >> A
+    Premise(1),
+    Part(0),
+    Part(1),
+    Part(2),
+    Part(4),
+    // 6: H >> A[d]
+    Conclude(Instances(TySub), [2, 3, 4, 5, 0, 0, 0, 0, 0, 0], [0, 1, 0, 0, 0, 0, 0]),
+};

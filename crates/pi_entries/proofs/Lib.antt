@@ -1,0 +1,2 @@
+pub mod PiNone
+pub mod SigmaNone

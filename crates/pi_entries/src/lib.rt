@@ -1,0 +1,29 @@
+//! What stands behind the conclusions of the rules of functions and pairs.
+#![tactic(auto)]
+
+/// The rows of a table, each on a line of its own however long.
+macro_rules! table {
+    ($($row:expr,)*) => { &[$($row),*] };
+}
+
+mod app;
+mod app_cong;
+mod fst_cong;
+mod lam;
+mod pair;
+mod pi;
+mod pi_beta;
+mod pi_tycong;
+mod pi_u;
+mod pi_ucong;
+mod sig_beta1;
+mod sig_beta2;
+mod sig_tycong;
+mod sig_u;
+mod sig_ucong;
+mod sigma;
+mod snd;
+mod snd_cong;
+
+pub use pi::pi_entry;
+pub use sigma::sigma_entry;
