@@ -1,5 +1,5 @@
 -- What stands behind a pattern stands, at all values of its parts, behind its value.
-use Rattle.std.proofs.Common.{◌≡◌, ℕ, zero, suc, List, [], ◌∷◌, map, Bool, true, false, cond, refl, sym, ◌∙◌, ap, ap₂, Option, Some, None}
+use Rattle.std.proofs.Common.{◌≡◌, ℕ, zero, suc, List, [], ◌∷◌, map, Bool, cond, refl, ◌∙◌, ap, ap₂, Option, Some, None}
 use Rattle.std.specs.Prelude.{option_and_then, slice_get}
 use Rattle.std.proofs.lemmas.Option.{cond_some}
 use Rattle.trees.specs.declared.op.Op.{Op}
@@ -13,8 +13,8 @@ use Rattle.presuppositions.specs.declared.source.Label.{Label}
 use Rattle.presuppositions.specs.declared.source.Label.TheVariants as label
 use Rattle.presuppositions.specs.declared.source.Source.{Source}
 use Rattle.presuppositions.specs.declared.source.Source.TheVariants as source
-use Rattle.presuppositions.specs.Behind.{is_binder, is_path, over_two, over_three, listed, patterns_listed, kids_where, kid_patterns_where, context_before, last_type_of, pattern_before, last_type_pattern, pattern_views, tree_views, behind, behind_pattern, behind_type, stands_behind}
-use Rattle.presuppositions.specs.Sources.{source_of, sources_of, sources, source_patterns}
+use Rattle.presuppositions.specs.Behind.{is_binder, is_path, over_two, over_three, listed, patterns_listed, kids_where, kid_patterns_where, context_before, pattern_before, pattern_views, tree_views, behind, behind_pattern, behind_type}
+use Rattle.presuppositions.specs.Sources.{source_of, sources, source_patterns}
 
 module _ (v : Parts trees) where
   value : Pattern → Tree

@@ -1,5 +1,5 @@
 -- What the test of entries accepts is one.
-use Rattle.std.proofs.Common.{◌≡◌, ℕ, List, [], ◌∷◌, Bool, true, false, ◌&&◌, not, refl, sym, ◌∙◌, ap, subst, Option, Some, None}
+use Rattle.std.proofs.Common.{◌≡◌, ℕ, List, [], ◌∷◌, Bool, true, false, not, refl, sym, subst, Option, Some, None}
 use Rattle.theory.specs.declared.rule.RuleName.{RuleName}
 use Rattle.patterns.proofs.SameLaws.{both}
 use Rattle.pattern_sides.specs.Follows.{follows}

@@ -1,2 +1,3 @@
 pub mod BehindLaws
 pub mod EntryLaws
+pub mod TreeLaws

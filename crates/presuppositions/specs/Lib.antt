@@ -1,3 +1,4 @@
 pub mod Behind
 pub mod Sources
 pub mod Entries
+pub mod AtTrees

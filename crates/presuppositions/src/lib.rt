@@ -14,13 +14,20 @@
 #![tactic(auto)]
 
 ghost use Rattle.std.specs.Prelude.{◌≡◌, List, Some, map};
-ghost use Rattle.trees.specs.Judgements.{trees};
+ghost use Rattle.theory.specs.declared.rule.RuleName.{RuleName};
+ghost use Rattle.theory.specs.RuleNames.{kinds_of};
+ghost use Rattle.trees.specs.Judgements.{trees, TreeRule};
+ghost use Rattle.trees.specs.Things.{Thing, kind_of};
 ghost use Rattle.patterns.specs.Patterns.{JudgementPattern};
 ghost use Rattle.patterns.specs.Values.{Parts, judgement_of};
+ghost use Rattle.rules.specs.Rules.{rule_at};
+ghost use Rattle.recipes.specs.Statements.{Statement};
 ghost use Rattle.presuppositions.specs.declared.source.Label.{Label};
 ghost use Rattle.presuppositions.specs.declared.source.Source.{Source};
 ghost use Rattle.presuppositions.specs.Behind.{behind, behind_pattern};
 ghost use Rattle.presuppositions.specs.Sources.{sources, source_patterns};
+ghost use Rattle.presuppositions.specs.Entries.{entry_statement};
+ghost use Rattle.presuppositions.specs.AtTrees.{StatesBehind};
 
 mod source;
 
@@ -35,4 +42,12 @@ pub fn values_keep_what_stands_behind()
     ensures sources { (v : Parts trees) (wants Js : List JudgementPattern) (ss : List Source) →
         source_patterns wants ss ≡ Some Js →
         sources (map (judgement_of v) wants) ss ≡ Some (map (judgement_of v) Js) }
+{}
+
+/// At given parts an entry wants what its sources name of the premises of the rule, and gives what
+/// stands behind its conclusion.
+pub fn entries_at_trees()
+    ensures { (name : RuleName) (l : Label) (ss : List Source) (s : Statement) (xs : List Thing) →
+        map kind_of xs ≡ kinds_of name → entry_statement name l ss ≡ Some s →
+        (r : TreeRule) → rule_at name xs ≡ Some r → StatesBehind l ss s xs r }
 {}

@@ -1,0 +1,20 @@
+-- What an entry states at given parts of its rule.
+use Rattle.std.specs.Prelude.{◌≡◌, List, [], ◌∷◌, map, Some, option_map}
+use Rattle.trees.specs.Judgements.{TreeRule}
+use Rattle.trees.specs.Things.{Thing, kind_of}
+use Rattle.patterns.specs.Values.{parts_of, condition_of}
+use Rattle.recipes.specs.Statements.{Statement}
+use Rattle.recipes.specs.Derivations.{premises_at, conclusions_at}
+use Rattle.presuppositions.specs.declared.source.Label.{Label}
+use Rattle.presuppositions.specs.declared.source.Source.{Source}
+use Rattle.presuppositions.specs.Behind.{behind}
+use Rattle.presuppositions.specs.Sources.{sources}
+
+-- At these parts the statement wants what the sources name of the premises of the rule r, has its
+-- side conditions, and gives what stands behind its conclusion.
+pub record StatesBehind (l : Label) (ss : List Source) (s : Statement) (xs : List Thing)
+    (r : TreeRule) : Type 0 where
+  pub kinds : map kind_of xs ≡ s.kinds
+  pub wants : sources r.wants ss ≡ Some (premises_at s xs)
+  pub sides : map (condition_of (parts_of xs)) s.sides ≡ r.sides
+  pub gives : option_map (λ J. J ∷ []) (behind l r.gives) ≡ Some (conclusions_at s xs)
