@@ -1,0 +1,2 @@
+pub mod SystemNone
+pub mod CompNone

@@ -1,0 +1,22 @@
+use Rattle.std.proofs.Common.{refl}
+use Rattle.theory.specs.declared.rule.RuleName.TheVariants.{Systems}
+use Rattle.theory.specs.declared.rule.SystemRule.TheVariants as rule
+use Rattle.presuppositions.specs.declared.source.Label.TheVariants as label
+use Rattle.presuppositions.proofs.EntryLaws.{answers}
+use Rattle.comp_entries.proofs.SystemNone.{none-left}
+use Rattle.comp_entries.proofs.systems.left_of_system.Goals as goal
+
+pub returns-in-SysTyLeft : goal.returns-in-SysTyLeft
+returns-in-SysTyLeft c = λ earlier. answers (λ r. Systems r) earlier label.Left c.args.rule rule.SysTyLeft c.in-SysTyLeft.is _ _ _ c.derived.result c.derived.ensures refl
+
+pub returns-in-SysTyRight : goal.returns-in-SysTyRight
+returns-in-SysTyRight c = λ earlier. answers (λ r. Systems r) earlier label.Left c.args.rule rule.SysTyRight c.in-SysTyRight.is _ _ _ c.derived-in-SysTyRight.result c.derived-in-SysTyRight.ensures refl
+
+pub returns-in-SysLeft : goal.returns-in-SysLeft
+returns-in-SysLeft c = λ earlier. answers (λ r. Systems r) earlier label.Left c.args.rule rule.SysLeft c.in-SysLeft.is _ _ _ c.derived-in-SysLeft.result c.derived-in-SysLeft.ensures refl
+
+pub returns-in-SysRight : goal.returns-in-SysRight
+returns-in-SysRight c = λ earlier. answers (λ r. Systems r) earlier label.Left c.args.rule rule.SysRight c.in-SysRight.is _ _ _ c.derived-in-SysRight.result c.derived-in-SysRight.ensures refl
+
+pub returns-in-SysTy : goal.returns-in-SysTy
+returns-in-SysTy c = λ earlier. none-left c.args.rule c.in-SysTy.is

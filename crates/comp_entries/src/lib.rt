@@ -1,0 +1,27 @@
+//! What stands behind the conclusions of the rules of systems and composition.
+#![tactic(auto)]
+
+/// The rows of a table, each on a line of its own however long.
+macro_rules! table {
+    ($($row:expr,)*) => { &[$($row),*] };
+}
+
+mod comp;
+mod comp_cong;
+mod comp_face;
+mod comp_glue;
+mod comp_path;
+mod comp_pi;
+mod comp_sig;
+mod comp_suc;
+mod comp_u;
+mod comp_zero;
+mod composition;
+mod sys_left;
+mod sys_right;
+mod sys_tyleft;
+mod sys_tyright;
+mod systems;
+
+pub use composition::comp_entry;
+pub use systems::system_entry;

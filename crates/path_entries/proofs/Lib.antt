@@ -1,0 +1,2 @@
+pub mod PathNone
+pub mod NatNone

@@ -1,0 +1,20 @@
+use Rattle.std.proofs.Common.{subst, sym}
+use Rattle.theory.specs.declared.rule.RuleName.TheVariants.{Naturals}
+use Rattle.presuppositions.specs.Entries.{Answers}
+use Rattle.path_entries.proofs.NatNone.{none-label}
+use Rattle.path_entries.proofs.naturals.nat_entry.Goals as goal
+
+pub returns-in-Context : goal.returns-in-Context
+returns-in-Context c = λ earlier. subst (λ l. Answers earlier (Naturals c.args.rule) l c.context_of_nat.result) (sym c.in-Context.is) (c.context_of_nat.ensures earlier)
+
+pub returns-in-Type : goal.returns-in-Type
+returns-in-Type c = λ earlier. subst (λ l. Answers earlier (Naturals c.args.rule) l c.type_of_nat.result) (sym c.in-Type.is) (c.type_of_nat.ensures earlier)
+
+pub returns-in-Left : goal.returns-in-Left
+returns-in-Left c = λ earlier. subst (λ l. Answers earlier (Naturals c.args.rule) l c.left_of_nat.result) (sym c.in-Left.is) (c.left_of_nat.ensures earlier)
+
+pub returns-in-Right : goal.returns-in-Right
+returns-in-Right c = λ earlier. subst (λ l. Answers earlier (Naturals c.args.rule) l c.right_of_nat.result) (sym c.in-Right.is) (c.right_of_nat.ensures earlier)
+
+pub returns-in-From : goal.returns-in-From
+returns-in-From c = λ earlier. none-label c.args.rule c.args.label c.in-From.is

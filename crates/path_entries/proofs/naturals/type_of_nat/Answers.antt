@@ -1,0 +1,30 @@
+use Rattle.std.proofs.Common.{refl}
+use Rattle.theory.specs.declared.rule.RuleName.TheVariants.{Naturals}
+use Rattle.theory.specs.declared.rule.NatRule.TheVariants as rule
+use Rattle.presuppositions.specs.declared.source.Label.TheVariants as label
+use Rattle.presuppositions.proofs.EntryLaws.{answers}
+use Rattle.path_entries.proofs.naturals.type_of_nat.Goals as goal
+
+pub returns-in-NatU : goal.returns-in-NatU
+returns-in-NatU c = λ earlier. answers (λ r. Naturals r) earlier label.Type c.args.rule rule.NatU c.in-NatU.is _ _ _ c.derived.result c.derived.ensures refl
+
+pub returns-in-Zero : goal.returns-in-Zero
+returns-in-Zero c = λ earlier. answers (λ r. Naturals r) earlier label.Type c.args.rule rule.Zero c.in-Zero.is _ _ _ c.derived-in-Zero.result c.derived-in-Zero.ensures refl
+
+pub returns-in-Suc : goal.returns-in-Suc
+returns-in-Suc c = λ earlier. answers (λ r. Naturals r) earlier label.Type c.args.rule rule.Suc c.in-Suc.is _ _ _ c.derived-in-Suc.result c.derived-in-Suc.ensures refl
+
+pub returns-in-SucCong : goal.returns-in-SucCong
+returns-in-SucCong c = λ earlier. answers (λ r. Naturals r) earlier label.Type c.args.rule rule.SucCong c.in-SucCong.is _ _ _ c.derived-in-SucCong.result c.derived-in-SucCong.ensures refl
+
+pub returns-in-NatRec : goal.returns-in-NatRec
+returns-in-NatRec c = λ earlier. answers (λ r. Naturals r) earlier label.Type c.args.rule rule.NatRec c.in-NatRec.is _ _ _ c.derived-in-NatRec.result c.derived-in-NatRec.ensures refl
+
+pub returns-in-NatRecCong : goal.returns-in-NatRecCong
+returns-in-NatRecCong c = λ earlier. answers (λ r. Naturals r) earlier label.Type c.args.rule rule.NatRecCong c.in-NatRecCong.is _ _ _ c.derived-in-NatRecCong.result c.derived-in-NatRecCong.ensures refl
+
+pub returns-in-NatRecZero : goal.returns-in-NatRecZero
+returns-in-NatRecZero c = λ earlier. answers (λ r. Naturals r) earlier label.Type c.args.rule rule.NatRecZero c.in-NatRecZero.is _ _ _ c.at_hand.result c.at_hand.ensures refl
+
+pub returns-in-NatRecSuc : goal.returns-in-NatRecSuc
+returns-in-NatRecSuc c = λ earlier. answers (λ r. Naturals r) earlier label.Type c.args.rule rule.NatRecSuc c.in-NatRecSuc.is _ _ _ c.derived-in-NatRecSuc.result c.derived-in-NatRecSuc.ensures refl

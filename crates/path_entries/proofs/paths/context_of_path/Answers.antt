@@ -1,0 +1,39 @@
+use Rattle.std.proofs.Common.{refl}
+use Rattle.theory.specs.declared.rule.RuleName.TheVariants.{Paths}
+use Rattle.theory.specs.declared.rule.PathRule.TheVariants as rule
+use Rattle.presuppositions.specs.declared.source.Label.TheVariants as label
+use Rattle.presuppositions.proofs.EntryLaws.{answers}
+use Rattle.path_entries.proofs.paths.context_of_path.Goals as goal
+
+pub returns-in-PathTy : goal.returns-in-PathTy
+returns-in-PathTy c = λ earlier. answers (λ r. Paths r) earlier label.Context c.args.rule rule.PathTy c.in-PathTy.is _ _ _ c.at_hand.result c.at_hand.ensures refl
+
+pub returns-in-PathU : goal.returns-in-PathU
+returns-in-PathU c = λ earlier. answers (λ r. Paths r) earlier label.Context c.args.rule rule.PathU c.in-PathU.is _ _ _ c.at_hand-in-PathU.result c.at_hand-in-PathU.ensures refl
+
+pub returns-in-PathTyCong : goal.returns-in-PathTyCong
+returns-in-PathTyCong c = λ earlier. answers (λ r. Paths r) earlier label.Context c.args.rule rule.PathTyCong c.in-PathTyCong.is _ _ _ c.at_hand-in-PathTyCong.result c.at_hand-in-PathTyCong.ensures refl
+
+pub returns-in-PathUCong : goal.returns-in-PathUCong
+returns-in-PathUCong c = λ earlier. answers (λ r. Paths r) earlier label.Context c.args.rule rule.PathUCong c.in-PathUCong.is _ _ _ c.at_hand-in-PathUCong.result c.at_hand-in-PathUCong.ensures refl
+
+pub returns-in-PLam : goal.returns-in-PLam
+returns-in-PLam c = λ earlier. answers (λ r. Paths r) earlier label.Context c.args.rule rule.PLam c.in-PLam.is _ _ _ c.at_hand-in-PLam.result c.at_hand-in-PLam.ensures refl
+
+pub returns-in-PApp : goal.returns-in-PApp
+returns-in-PApp c = λ earlier. answers (λ r. Paths r) earlier label.Context c.args.rule rule.PApp c.in-PApp.is _ _ _ c.at_hand-in-PApp.result c.at_hand-in-PApp.ensures refl
+
+pub returns-in-PAppCong : goal.returns-in-PAppCong
+returns-in-PAppCong c = λ earlier. answers (λ r. Paths r) earlier label.Context c.args.rule rule.PAppCong c.in-PAppCong.is _ _ _ c.at_hand-in-PAppCong.result c.at_hand-in-PAppCong.ensures refl
+
+pub returns-in-PathLeft : goal.returns-in-PathLeft
+returns-in-PathLeft c = λ earlier. answers (λ r. Paths r) earlier label.Context c.args.rule rule.PathLeft c.in-PathLeft.is _ _ _ c.at_hand-in-PathLeft.result c.at_hand-in-PathLeft.ensures refl
+
+pub returns-in-PathRight : goal.returns-in-PathRight
+returns-in-PathRight c = λ earlier. answers (λ r. Paths r) earlier label.Context c.args.rule rule.PathRight c.in-PathRight.is _ _ _ c.at_hand-in-PathRight.result c.at_hand-in-PathRight.ensures refl
+
+pub returns-in-PathBeta : goal.returns-in-PathBeta
+returns-in-PathBeta c = λ earlier. answers (λ r. Paths r) earlier label.Context c.args.rule rule.PathBeta c.in-PathBeta.is _ _ _ c.at_hand-in-PathBeta.result c.at_hand-in-PathBeta.ensures refl
+
+pub returns-in-PathEta : goal.returns-in-PathEta
+returns-in-PathEta c = λ earlier. answers (λ r. Paths r) earlier label.Context c.args.rule rule.PathEta c.in-PathEta.is _ _ _ c.at_hand-in-PathEta.result c.at_hand-in-PathEta.ensures refl
