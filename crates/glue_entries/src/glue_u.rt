@@ -1,0 +1,15 @@
+//! Written by tools/write_entries.py.
+
+use recipes::Row;
+use recipes::Row::{Conclude, Part, Premise};
+use theory::RuleName::Universe;
+use theory::UniverseRule::TyUniv;
+
+/// `Type` of what glue.u concludes. Its parts are G A p T w.
+pub static GLUE_U_TYPE: &[Row] = table! {
+    // 0: ctx G
+    Premise(0),
+    Part(0),
+    // 2: G >> U
+    Conclude(Universe(TyUniv), [1, 0, 0, 0, 0, 0, 0, 0, 0, 0], [0, 0, 0, 0, 0, 0, 0]),
+};
