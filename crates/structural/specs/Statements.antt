@@ -10,7 +10,7 @@ use Rattle.rules.specs.Table.{pair, fst, pathp, plam, sys, glue_type, glue, equi
 use Rattle.recipes.specs.Statements.{Stated, Statement, stated}
 
 -- d under one more binder
-abbrev lifted : (L : Language) → L.subst → L.subst
+abbrev pub lifted : (L : Language) → L.subst → L.subst
 lifted L d = L.push (L.then d (up L)) (L.var 0)
 
 -- Substitutions under a variable, a name and a face.
