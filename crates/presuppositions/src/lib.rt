@@ -13,21 +13,25 @@
 //! an entry states is made of it and of the table of rules.
 #![tactic(auto)]
 
-ghost use Rattle.std.specs.Prelude.{◌≡◌, List, Some, map};
+ghost use Rattle.std.specs.Prelude.{◌≡◌, ℕ, List, Some, map};
+ghost use Rattle.std.specs.List.{All};
 ghost use Rattle.theory.specs.declared.rule.RuleName.{RuleName};
 ghost use Rattle.theory.specs.RuleNames.{kinds_of};
-ghost use Rattle.trees.specs.Judgements.{trees, TreeRule};
+ghost use Rattle.trees.specs.Judgements.{trees, Judgement, TreeRule};
 ghost use Rattle.trees.specs.Things.{Thing, kind_of};
 ghost use Rattle.patterns.specs.Patterns.{JudgementPattern};
 ghost use Rattle.patterns.specs.Values.{Parts, judgement_of};
 ghost use Rattle.rules.specs.Rules.{rule_at};
+ghost use Rattle.rules.specs.Instances.{IsInstance};
+ghost use Rattle.recipes.specs.declared.row.Row.{Row};
+ghost use Rattle.recipes.specs.Made.{ShiftIsAtMost, greatest_part_shift};
 ghost use Rattle.recipes.specs.Statements.{Statement};
 ghost use Rattle.presuppositions.specs.declared.source.Label.{Label};
 ghost use Rattle.presuppositions.specs.declared.source.Source.{Source};
 ghost use Rattle.presuppositions.specs.Behind.{behind, behind_pattern};
 ghost use Rattle.presuppositions.specs.Sources.{sources, source_patterns};
-ghost use Rattle.presuppositions.specs.Entries.{entry_statement};
-ghost use Rattle.presuppositions.specs.AtTrees.{StatesBehind};
+ghost use Rattle.presuppositions.specs.Entries.{IsEntry, entry_statement};
+ghost use Rattle.presuppositions.specs.AtTrees.{StatesBehind, DerivesBehind};
 
 mod source;
 
@@ -50,4 +54,14 @@ pub fn entries_at_trees()
     ensures { (name : RuleName) (l : Label) (ss : List Source) (s : Statement) (xs : List Thing) →
         map kind_of xs ≡ kinds_of name → entry_statement name l ss ≡ Some s →
         (r : TreeRule) → rule_at name xs ≡ Some r → StatesBehind l ss s xs r }
+{}
+
+/// Of an instance of a rule, an entry derives what stands behind its conclusion, from what the
+/// sources name of its premises.
+pub fn entries_derive()
+    ensures { (earlier : List Statement) (name : RuleName) (l : Label) (ss : List Source)
+        (rows : List Row) (last : ℕ) → IsEntry earlier name l ss rows last →
+        (xs : List Thing) (premises : List Judgement) (K : Judgement) →
+        IsInstance name xs premises K → All (ShiftIsAtMost greatest_part_shift) xs →
+        DerivesBehind earlier l ss rows last xs premises K }
 {}
