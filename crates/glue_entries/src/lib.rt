@@ -1,5 +1,5 @@
-//! What stands behind the conclusions of the rules of Glue, and that types of equivalences are equal
-//! where their ends are.
+//! What stands behind the conclusions of the rules of Glue, and that types of equivalences are
+//! equal where their ends are.
 #![tactic(auto)]
 
 ghost use Rattle.std.specs.Prelude.{[], ◌∷◌};

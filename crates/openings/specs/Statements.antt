@@ -1,4 +1,4 @@
--- What the opening of literal forms, and the uses of what stands behind a judgement, state, in every
+-- What the opening of literal forms and the uses of what stands behind a judgement state, in every
 -- language.
 use Rattle.std.specs.Prelude.{List, [], ◌∷◌}
 use Rattle.trees.specs.declared.kind.PartKind.{PartKind}

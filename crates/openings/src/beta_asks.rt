@@ -7,7 +7,7 @@ use theory::EqualityRule::{TmConv, TyEqSym};
 use theory::InstanceRule::TySub;
 use theory::RuleName::{Contexts, Equality, Instances};
 
-/// What a function that is applied at another domain asks: its argument has its domain, and the types
+/// What a function applied at another domain asks: that its argument has its domain, and the types
 /// that are to be compared.
 /// Its parts are G C b E A B a.
 pub static BETA_ASKS: &[Row] = table! {

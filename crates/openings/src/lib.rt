@@ -73,7 +73,8 @@ pub use up_var::{UP_VAR, UP_VAR_GIVES};
 pub fn forms_are_opened()
     ensures open_binder { Derives [] open_binder_statement OPEN_BINDER.now OPEN_BINDER_GIVES.now }
     ensures open_pathp { Derives [] open_pathp_statement OPEN_PATHP.now OPEN_PATHP_GIVES.now }
-    ensures open_glue_type { Derives [] open_glue_type_statement OPEN_GLUE_TYPE.now OPEN_GLUE_TYPE_GIVES.now }
+    ensures open_glue_type { Derives []
+        open_glue_type_statement OPEN_GLUE_TYPE.now OPEN_GLUE_TYPE_GIVES.now }
     ensures open_lam { Derives [] open_lam_statement OPEN_LAM.now OPEN_LAM_GIVES.now }
     ensures open_pair { Derives [] open_pair_statement OPEN_PAIR.now OPEN_PAIR_GIVES.now }
     ensures open_plam { Derives [] open_plam_statement OPEN_PLAM.now OPEN_PLAM_GIVES.now }
@@ -82,9 +83,12 @@ pub fn forms_are_opened()
 
 /// The parts of forms that are in the universe, as types.
 pub fn types_in_the_universe_are_opened()
-    ensures open_binder_u { Derives [] open_binder_u_statement OPEN_BINDER_U.now OPEN_BINDER_U_GIVES.now }
-    ensures open_pathp_u { Derives [] open_pathp_u_statement OPEN_PATHP_U.now OPEN_PATHP_U_GIVES.now }
-    ensures open_glue_type_u { Derives [] open_glue_type_u_statement OPEN_GLUE_TYPE_U.now OPEN_GLUE_TYPE_U_GIVES.now }
+    ensures open_binder_u { Derives []
+        open_binder_u_statement OPEN_BINDER_U.now OPEN_BINDER_U_GIVES.now }
+    ensures open_pathp_u { Derives []
+        open_pathp_u_statement OPEN_PATHP_U.now OPEN_PATHP_U_GIVES.now }
+    ensures open_glue_type_u { Derives []
+        open_glue_type_u_statement OPEN_GLUE_TYPE_U.now OPEN_GLUE_TYPE_U_GIVES.now }
 {}
 
 /// The weakenings by a variable, a name and a face.
@@ -105,7 +109,8 @@ pub fn typings_are_derived()
 /// A function that is applied at a domain that equals its own.
 pub fn applications_are_derived()
     ensures beta_asks { Derives [] beta_asks_statement BETA_ASKS.now BETA_ASKS_GIVES.now }
-    ensures beta_answers { Derives [] beta_answers_statement BETA_ANSWERS.now BETA_ANSWERS_GIVES.now }
+    ensures beta_answers { Derives []
+        beta_answers_statement BETA_ANSWERS.now BETA_ANSWERS_GIVES.now }
 {}
 
 /// At trees the statements are what their definitions say there.
