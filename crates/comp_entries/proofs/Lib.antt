@@ -1,2 +1,2 @@
-pub mod SystemNone
-pub mod CompNone
+pub mod SystemLabels
+pub mod CompLabels

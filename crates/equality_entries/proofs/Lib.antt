@@ -1,4 +1,4 @@
-pub mod ContextNone
-pub mod InstanceNone
-pub mod EqualityNone
-pub mod UniverseNone
+pub mod ContextLabels
+pub mod InstanceLabels
+pub mod EqualityLabels
+pub mod UniverseLabels

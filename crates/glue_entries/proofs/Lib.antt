@@ -1,1 +1,1 @@
-pub mod GlueNone
+pub mod GlueLabels

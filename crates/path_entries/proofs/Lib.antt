@@ -1,2 +1,2 @@
-pub mod PathNone
-pub mod NatNone
+pub mod PathLabels
+pub mod NatLabels

@@ -1,2 +1,2 @@
-pub mod PiNone
-pub mod SigmaNone
+pub mod PiLabels
+pub mod SigmaLabels

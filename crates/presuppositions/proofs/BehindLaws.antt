@@ -13,13 +13,10 @@ use Rattle.presuppositions.specs.declared.source.Label.{Label}
 use Rattle.presuppositions.specs.declared.source.Label.TheVariants as label
 use Rattle.presuppositions.specs.declared.source.Source.{Source}
 use Rattle.presuppositions.specs.declared.source.Source.TheVariants as source
-use Rattle.presuppositions.specs.Behind.{is_binder, is_path, over_two, over_three, listed, patterns_listed, kids_where, kid_patterns_where, context_before, pattern_before, pattern_views, tree_views, behind, behind_pattern, behind_type}
+use Rattle.presuppositions.specs.Behind.{is_binder, is_path, over_two, over_three, listed, patterns_listed, kids_where, kid_patterns_where, pattern_views, tree_views, behind, behind_pattern, behind_type}
 use Rattle.presuppositions.specs.Sources.{source_of, sources, source_patterns}
 
 module _ (v : Parts trees) where
-  value : Pattern → Tree
-  value p = tree_of trees v p
-
   listed-values : (ps : Patterns) → listed (trees_of (kid_trees_of trees v ps)) ≡ map (tree_of trees v) (patterns_listed ps)
   listed-values NoPatterns = refl
   listed-values (MorePatterns p ps) = ap (λ ts. tree_of trees v p ∷ ts) (listed-values ps)
@@ -50,15 +47,6 @@ module _ (v : Parts trees) where
   with-kids is p f g same K None o_is e = absurd (cc e)
   with-kids is p f g same K (Some ps) o_is e =
       ap (option_and_then g) (kids-of-value is p ps o_is) ∙ same ps K e
-
-  -- the value of a context before its last entry, and of the type of that
-
-  before-value : (G H : ContextPattern) → pattern_before G ≡ Some H → context_before (context_of trees v G) ≡ Some (context_of trees v H)
-  before-value (ContextPart k) H e = absurd (cc e)
-  before-value Empty H e = absurd (cc e)
-  before-value (AddVar G A) H e = let is : G ≡ H = cc in ap (λ z. Some (context_of trees v z)) is
-  before-value (AddName G) H e = let is : G ≡ H = cc in ap (λ z. Some (context_of trees v z)) is
-  before-value (AddFace G p) H e = let is : G ≡ H = cc in ap (λ z. Some (context_of trees v z)) is
 
   same-value : (J K : JudgementPattern) → Some J ≡ Some K → Some (judgement_of v J) ≡ Some (judgement_of v K)
   same-value J K e = let is : J ≡ K = cc in ap (λ z. Some (judgement_of v z)) is

@@ -1,5 +1,6 @@
--- What the test of entries accepts is one.
-use Rattle.std.proofs.Common.{◌≡◌, ℕ, List, [], ◌∷◌, Bool, true, false, not, refl, sym, subst, Option, Some, None}
+-- What the test of entries accepts is one, and what is so of each of some rules or labels.
+use Rattle.std.proofs.Common.{◌≡◌, ℕ, List, [], ◌∷◌, Bool, true, false, not, ◌⊎◌, inl, inr, refl, sym, ◌∙◌, ap, subst, Option, Some, None}
+use Rattle.std.specs.List.{list_all}
 use Rattle.theory.specs.declared.rule.RuleName.{RuleName}
 use Rattle.patterns.proofs.SameLaws.{both}
 use Rattle.pattern_sides.specs.Follows.{follows}
@@ -42,3 +43,15 @@ had earlier name l sources rows last (Some e) has h =
 pub answers : {R : Type 0} (family : R → RuleName) (earlier : List Statement) (l : Label) (shown r : R) → shown ≡ r → (sources : List Source) (rows : List Row) (last : ℕ) (o : Option Entry) → Has sources rows last o → is_entry earlier (family r) l sources rows last ≡ true → Answers earlier (family shown) l o
 answers family earlier l shown r is sources rows last o has h =
     subst (λ z. Answers earlier (family z) l o) (sym is) (had earlier (family r) l sources rows last o has h)
+
+-- x is one of these
+abbrev IsOneOf : {A : Type 0} → A → List A → Type 0
+IsOneOf x [] = ⊥
+IsOneOf x (y ∷ []) = x ≡ y
+IsOneOf x (y ∷ z ∷ zs) = (x ≡ y) ⊎ IsOneOf x (z ∷ zs)
+
+pub one-of : {A : Type 0} (f : A → Bool) (x : A) (ys : List A) → IsOneOf x ys → list_all f ys ≡ true → f x ≡ true
+one-of f x [] is all = absurd is
+one-of f x (y ∷ []) is all = ap f is ∙ (both (f y) _ all).0
+one-of f x (y ∷ z ∷ zs) (inl is) all = ap f is ∙ (both (f y) _ all).0
+one-of f x (y ∷ z ∷ zs) (inr is) all = one-of f x (z ∷ zs) is (both (f y) _ all).1

@@ -1,7 +1,8 @@
 use Rattle.std.proofs.Common.{subst, sym}
 use Rattle.theory.specs.declared.rule.RuleName.TheVariants.{Composition}
-use Rattle.presuppositions.specs.Entries.{Answers}
-use Rattle.comp_entries.proofs.CompNone.{none-label}
+use Rattle.presuppositions.specs.Entries.{Answers, has_none}
+use Rattle.presuppositions.proofs.EntryLaws.{one-of}
+use Rattle.comp_entries.proofs.CompLabels.{others, none-others}
 use Rattle.comp_entries.proofs.composition.comp_entry.Goals as goal
 
 pub returns-in-Context : goal.returns-in-Context
@@ -17,4 +18,4 @@ pub returns-in-Right : goal.returns-in-Right
 returns-in-Right c = λ earlier. subst (λ l. Answers earlier (Composition c.args.rule) l c.right_of_comp.result) (sym c.in-Right.is) (c.right_of_comp.ensures earlier)
 
 pub returns-in-From : goal.returns-in-From
-returns-in-From c = λ earlier. none-label c.args.rule c.args.label c.in-From.is
+returns-in-From c = λ earlier. one-of (has_none (Composition c.args.rule)) c.args.label others c.in-From.is (none-others c.args.rule)

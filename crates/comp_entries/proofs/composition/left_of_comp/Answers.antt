@@ -1,9 +1,9 @@
-use Rattle.std.proofs.Common.{refl}
+use Rattle.std.proofs.Common.{refl, [], ◌∷◌}
 use Rattle.theory.specs.declared.rule.RuleName.TheVariants.{Composition}
 use Rattle.theory.specs.declared.rule.CompRule.TheVariants as rule
 use Rattle.presuppositions.specs.declared.source.Label.TheVariants as label
-use Rattle.presuppositions.proofs.EntryLaws.{answers}
-use Rattle.comp_entries.proofs.CompNone.{none-left}
+use Rattle.presuppositions.specs.Entries.{has_none}
+use Rattle.presuppositions.proofs.EntryLaws.{answers, one-of}
 use Rattle.comp_entries.proofs.composition.left_of_comp.Goals as goal
 
 pub returns-in-CompFace : goal.returns-in-CompFace
@@ -34,4 +34,4 @@ pub returns-in-CompU : goal.returns-in-CompU
 returns-in-CompU c = λ earlier. answers (λ r. Composition r) earlier label.Left c.args.rule rule.CompU c.in-CompU.is _ _ _ c.derived-in-CompU.result c.derived-in-CompU.ensures refl
 
 pub returns-in-Comp : goal.returns-in-Comp
-returns-in-Comp c = λ earlier. none-left c.args.rule c.in-Comp.is
+returns-in-Comp c = λ earlier. one-of (λ r. has_none (Composition r) label.Left) c.args.rule (rule.Comp ∷ []) c.in-Comp.is refl

@@ -1,9 +1,9 @@
-use Rattle.std.proofs.Common.{refl}
+use Rattle.std.proofs.Common.{refl, [], ◌∷◌}
 use Rattle.theory.specs.declared.rule.RuleName.TheVariants.{Systems}
 use Rattle.theory.specs.declared.rule.SystemRule.TheVariants as rule
 use Rattle.presuppositions.specs.declared.source.Label.TheVariants as label
-use Rattle.presuppositions.proofs.EntryLaws.{answers}
-use Rattle.comp_entries.proofs.SystemNone.{none-left}
+use Rattle.presuppositions.specs.Entries.{has_none}
+use Rattle.presuppositions.proofs.EntryLaws.{answers, one-of}
 use Rattle.comp_entries.proofs.systems.left_of_system.Goals as goal
 
 pub returns-in-SysTyLeft : goal.returns-in-SysTyLeft
@@ -19,4 +19,4 @@ pub returns-in-SysRight : goal.returns-in-SysRight
 returns-in-SysRight c = λ earlier. answers (λ r. Systems r) earlier label.Left c.args.rule rule.SysRight c.in-SysRight.is _ _ _ c.derived-in-SysRight.result c.derived-in-SysRight.ensures refl
 
 pub returns-in-SysTy : goal.returns-in-SysTy
-returns-in-SysTy c = λ earlier. none-left c.args.rule c.in-SysTy.is
+returns-in-SysTy c = λ earlier. one-of (λ r. has_none (Systems r) label.Left) c.args.rule (rule.SysTy ∷ rule.SysTm ∷ rule.EmptyTy ∷ rule.EmptyTm ∷ []) c.in-SysTy.is refl

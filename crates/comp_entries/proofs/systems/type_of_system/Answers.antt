@@ -1,9 +1,9 @@
-use Rattle.std.proofs.Common.{refl}
+use Rattle.std.proofs.Common.{refl, [], ◌∷◌}
 use Rattle.theory.specs.declared.rule.RuleName.TheVariants.{Systems}
 use Rattle.theory.specs.declared.rule.SystemRule.TheVariants as rule
 use Rattle.presuppositions.specs.declared.source.Label.TheVariants as label
-use Rattle.presuppositions.proofs.EntryLaws.{answers}
-use Rattle.comp_entries.proofs.SystemNone.{none-type}
+use Rattle.presuppositions.specs.Entries.{has_none}
+use Rattle.presuppositions.proofs.EntryLaws.{answers, one-of}
 use Rattle.comp_entries.proofs.systems.type_of_system.Goals as goal
 
 pub returns-in-SysTm : goal.returns-in-SysTm
@@ -19,4 +19,4 @@ pub returns-in-EmptyTm : goal.returns-in-EmptyTm
 returns-in-EmptyTm c = λ earlier. answers (λ r. Systems r) earlier label.Type c.args.rule rule.EmptyTm c.in-EmptyTm.is _ _ _ c.at_hand-in-EmptyTm.result c.at_hand-in-EmptyTm.ensures refl
 
 pub returns-in-SysTy : goal.returns-in-SysTy
-returns-in-SysTy c = λ earlier. none-type c.args.rule c.in-SysTy.is
+returns-in-SysTy c = λ earlier. one-of (λ r. has_none (Systems r) label.Type) c.args.rule (rule.SysTy ∷ rule.SysTyLeft ∷ rule.SysTyRight ∷ rule.EmptyTy ∷ []) c.in-SysTy.is refl

@@ -1,9 +1,9 @@
-use Rattle.std.proofs.Common.{refl}
+use Rattle.std.proofs.Common.{refl, [], ◌∷◌}
 use Rattle.theory.specs.declared.rule.RuleName.TheVariants.{Contexts}
 use Rattle.theory.specs.declared.rule.ContextRule.TheVariants as rule
 use Rattle.presuppositions.specs.declared.source.Label.TheVariants as label
-use Rattle.presuppositions.proofs.EntryLaws.{answers}
-use Rattle.equality_entries.proofs.ContextNone.{none-to}
+use Rattle.presuppositions.specs.Entries.{has_none}
+use Rattle.presuppositions.proofs.EntryLaws.{answers, one-of}
 use Rattle.equality_entries.proofs.contexts.to_of_context.Goals as goal
 
 pub returns-in-SubId : goal.returns-in-SubId
@@ -31,4 +31,4 @@ pub returns-in-SubComp : goal.returns-in-SubComp
 returns-in-SubComp c = λ earlier. answers (λ r. Contexts r) earlier label.To c.args.rule rule.SubComp c.in-SubComp.is _ _ _ c.at_hand-in-SubComp.result c.at_hand-in-SubComp.ensures refl
 
 pub returns-in-CtxNil : goal.returns-in-CtxNil
-returns-in-CtxNil c = λ earlier. none-to c.args.rule c.in-CtxNil.is
+returns-in-CtxNil c = λ earlier. one-of (λ r. has_none (Contexts r) label.To) c.args.rule (rule.CtxNil ∷ rule.CtxVar ∷ rule.CtxName ∷ rule.CtxFace ∷ []) c.in-CtxNil.is refl

@@ -1,9 +1,9 @@
-use Rattle.std.proofs.Common.{refl}
+use Rattle.std.proofs.Common.{refl, [], ◌∷◌}
 use Rattle.theory.specs.declared.rule.RuleName.TheVariants.{Equality}
 use Rattle.theory.specs.declared.rule.EqualityRule.TheVariants as rule
 use Rattle.presuppositions.specs.declared.source.Label.TheVariants as label
-use Rattle.presuppositions.proofs.EntryLaws.{answers}
-use Rattle.equality_entries.proofs.EqualityNone.{none-right}
+use Rattle.presuppositions.specs.Entries.{has_none}
+use Rattle.presuppositions.proofs.EntryLaws.{answers, one-of}
 use Rattle.equality_entries.proofs.equality.right_of_equality.Goals as goal
 
 pub returns-in-TyEqRefl : goal.returns-in-TyEqRefl
@@ -40,4 +40,4 @@ pub returns-in-TmEqAbsurd : goal.returns-in-TmEqAbsurd
 returns-in-TmEqAbsurd c = λ earlier. answers (λ r. Equality r) earlier label.Right c.args.rule rule.TmEqAbsurd c.in-TmEqAbsurd.is _ _ _ c.at_hand-in-TmEqAbsurd.result c.at_hand-in-TmEqAbsurd.ensures refl
 
 pub returns-in-TmConv : goal.returns-in-TmConv
-returns-in-TmConv c = λ earlier. none-right c.args.rule c.in-TmConv.is
+returns-in-TmConv c = λ earlier. one-of (λ r. has_none (Equality r) label.Right) c.args.rule (rule.TmConv ∷ []) c.in-TmConv.is refl

@@ -1,9 +1,9 @@
-use Rattle.std.proofs.Common.{refl}
+use Rattle.std.proofs.Common.{refl, [], ◌∷◌}
 use Rattle.theory.specs.declared.rule.RuleName.TheVariants.{Equality}
 use Rattle.theory.specs.declared.rule.EqualityRule.TheVariants as rule
 use Rattle.presuppositions.specs.declared.source.Label.TheVariants as label
-use Rattle.presuppositions.proofs.EntryLaws.{answers}
-use Rattle.equality_entries.proofs.EqualityNone.{none-type}
+use Rattle.presuppositions.specs.Entries.{has_none}
+use Rattle.presuppositions.proofs.EntryLaws.{answers, one-of}
 use Rattle.equality_entries.proofs.equality.type_of_equality.Goals as goal
 
 pub returns-in-TmEqRefl : goal.returns-in-TmEqRefl
@@ -28,4 +28,4 @@ pub returns-in-TmEqAbsurd : goal.returns-in-TmEqAbsurd
 returns-in-TmEqAbsurd c = λ earlier. answers (λ r. Equality r) earlier label.Type c.args.rule rule.TmEqAbsurd c.in-TmEqAbsurd.is _ _ _ c.at_hand-in-TmEqAbsurd.result c.at_hand-in-TmEqAbsurd.ensures refl
 
 pub returns-in-TyEqRefl : goal.returns-in-TyEqRefl
-returns-in-TyEqRefl c = λ earlier. none-type c.args.rule c.in-TyEqRefl.is
+returns-in-TyEqRefl c = λ earlier. one-of (λ r. has_none (Equality r) label.Type) c.args.rule (rule.TyEqRefl ∷ rule.TyEqSym ∷ rule.TyEqTrans ∷ rule.TyEqCover ∷ rule.TyEqAbsurd ∷ []) c.in-TyEqRefl.is refl

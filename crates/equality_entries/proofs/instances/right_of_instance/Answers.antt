@@ -1,9 +1,9 @@
-use Rattle.std.proofs.Common.{refl}
+use Rattle.std.proofs.Common.{refl, [], ◌∷◌}
 use Rattle.theory.specs.declared.rule.RuleName.TheVariants.{Instances}
 use Rattle.theory.specs.declared.rule.InstanceRule.TheVariants as rule
 use Rattle.presuppositions.specs.declared.source.Label.TheVariants as label
-use Rattle.presuppositions.proofs.EntryLaws.{answers}
-use Rattle.equality_entries.proofs.InstanceNone.{none-right}
+use Rattle.presuppositions.specs.Entries.{has_none}
+use Rattle.presuppositions.proofs.EntryLaws.{answers, one-of}
 use Rattle.equality_entries.proofs.instances.right_of_instance.Goals as goal
 
 pub returns-in-TyEqSub : goal.returns-in-TyEqSub
@@ -25,4 +25,4 @@ pub returns-in-TmInt : goal.returns-in-TmInt
 returns-in-TmInt c = λ earlier. answers (λ r. Instances r) earlier label.Right c.args.rule rule.TmInt c.in-TmInt.is _ _ _ c.derived-in-TmInt.result c.derived-in-TmInt.ensures refl
 
 pub returns-in-TySub : goal.returns-in-TySub
-returns-in-TySub c = λ earlier. none-right c.args.rule c.in-TySub.is
+returns-in-TySub c = λ earlier. one-of (λ r. has_none (Instances r) label.Right) c.args.rule (rule.TySub ∷ rule.TmSub ∷ rule.TmVar ∷ []) c.in-TySub.is refl

@@ -1,9 +1,9 @@
-use Rattle.std.proofs.Common.{refl}
+use Rattle.std.proofs.Common.{refl, [], ◌∷◌}
 use Rattle.theory.specs.declared.rule.RuleName.TheVariants.{Instances}
 use Rattle.theory.specs.declared.rule.InstanceRule.TheVariants as rule
 use Rattle.presuppositions.specs.declared.source.Label.TheVariants as label
-use Rattle.presuppositions.proofs.EntryLaws.{answers}
-use Rattle.equality_entries.proofs.InstanceNone.{none-type}
+use Rattle.presuppositions.specs.Entries.{has_none}
+use Rattle.presuppositions.proofs.EntryLaws.{answers, one-of}
 use Rattle.equality_entries.proofs.instances.type_of_instance.Goals as goal
 
 pub returns-in-TmSub : goal.returns-in-TmSub
@@ -22,4 +22,4 @@ pub returns-in-TmVar : goal.returns-in-TmVar
 returns-in-TmVar c = λ earlier. answers (λ r. Instances r) earlier label.Type c.args.rule rule.TmVar c.in-TmVar.is _ _ _ c.derived-in-TmVar.result c.derived-in-TmVar.ensures refl
 
 pub returns-in-TySub : goal.returns-in-TySub
-returns-in-TySub c = λ earlier. none-type c.args.rule c.in-TySub.is
+returns-in-TySub c = λ earlier. one-of (λ r. has_none (Instances r) label.Type) c.args.rule (rule.TySub ∷ rule.TyEqSub ∷ rule.TyCong ∷ rule.TyInt ∷ []) c.in-TySub.is refl

@@ -1,7 +1,8 @@
 use Rattle.std.proofs.Common.{subst, sym}
 use Rattle.theory.specs.declared.rule.RuleName.TheVariants.{Universe}
-use Rattle.presuppositions.specs.Entries.{Answers}
-use Rattle.equality_entries.proofs.UniverseNone.{none-label}
+use Rattle.presuppositions.specs.Entries.{Answers, has_none}
+use Rattle.presuppositions.proofs.EntryLaws.{one-of}
+use Rattle.equality_entries.proofs.UniverseLabels.{others, none-others}
 use Rattle.equality_entries.proofs.universe.universe_entry.Goals as goal
 
 pub returns-in-Context : goal.returns-in-Context
@@ -14,4 +15,4 @@ pub returns-in-Right : goal.returns-in-Right
 returns-in-Right c = λ earlier. subst (λ l. Answers earlier (Universe c.args.rule) l c.right_of_universe.result) (sym c.in-Right.is) (c.right_of_universe.ensures earlier)
 
 pub returns-in-Type : goal.returns-in-Type
-returns-in-Type c = λ earlier. none-label c.args.rule c.args.label c.in-Type.is
+returns-in-Type c = λ earlier. one-of (has_none (Universe c.args.rule)) c.args.label others c.in-Type.is (none-others c.args.rule)

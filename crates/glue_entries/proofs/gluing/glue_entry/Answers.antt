@@ -1,8 +1,9 @@
 use Rattle.std.proofs.Common.{subst, sym, [], ◌∷◌}
 use Rattle.theory.specs.declared.rule.RuleName.TheVariants.{Gluing}
-use Rattle.presuppositions.specs.Entries.{Answers}
+use Rattle.presuppositions.specs.Entries.{Answers, has_none}
+use Rattle.presuppositions.proofs.EntryLaws.{one-of}
 use Rattle.glue_entries.specs.Statements.{equiv_tycong_statement}
-use Rattle.glue_entries.proofs.GlueNone.{none-label}
+use Rattle.glue_entries.proofs.GlueLabels.{others, none-others}
 use Rattle.glue_entries.proofs.gluing.glue_entry.Goals as goal
 
 pub returns-in-Context : goal.returns-in-Context
@@ -18,4 +19,4 @@ pub returns-in-Right : goal.returns-in-Right
 returns-in-Right c = subst (λ l. Answers (equiv_tycong_statement ∷ []) (Gluing c.args.rule) l c.right_of_glue.result) (sym c.in-Right.is) c.right_of_glue.ensures
 
 pub returns-in-From : goal.returns-in-From
-returns-in-From c = none-label c.args.rule c.args.label c.in-From.is
+returns-in-From c = one-of (has_none (Gluing c.args.rule)) c.args.label others c.in-From.is (none-others c.args.rule)

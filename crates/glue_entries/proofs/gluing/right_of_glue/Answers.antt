@@ -2,9 +2,9 @@ use Rattle.std.proofs.Common.{refl, [], ◌∷◌}
 use Rattle.theory.specs.declared.rule.RuleName.TheVariants.{Gluing}
 use Rattle.theory.specs.declared.rule.GlueRule.TheVariants as rule
 use Rattle.presuppositions.specs.declared.source.Label.TheVariants as label
-use Rattle.presuppositions.proofs.EntryLaws.{answers}
+use Rattle.presuppositions.specs.Entries.{has_none}
+use Rattle.presuppositions.proofs.EntryLaws.{answers, one-of}
 use Rattle.glue_entries.specs.Statements.{equiv_tycong_statement}
-use Rattle.glue_entries.proofs.GlueNone.{none-right}
 use Rattle.glue_entries.proofs.gluing.right_of_glue.Goals as goal
 
 pub returns-in-GlueTyFace : goal.returns-in-GlueTyFace
@@ -35,4 +35,4 @@ pub returns-in-GlueEta : goal.returns-in-GlueEta
 returns-in-GlueEta c = answers (λ r. Gluing r) (equiv_tycong_statement ∷ []) label.Right c.args.rule rule.GlueEta c.in-GlueEta.is _ _ _ c.at_hand-in-GlueEta.result c.at_hand-in-GlueEta.ensures refl
 
 pub returns-in-GlueTy : goal.returns-in-GlueTy
-returns-in-GlueTy c = none-right c.args.rule c.in-GlueTy.is
+returns-in-GlueTy c = one-of (λ r. has_none (Gluing r) label.Right) c.args.rule (rule.GlueTy ∷ rule.GlueU ∷ rule.Glue ∷ rule.Unglue ∷ []) c.in-GlueTy.is refl

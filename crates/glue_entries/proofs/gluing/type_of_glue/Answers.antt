@@ -2,9 +2,9 @@ use Rattle.std.proofs.Common.{refl, [], ◌∷◌}
 use Rattle.theory.specs.declared.rule.RuleName.TheVariants.{Gluing}
 use Rattle.theory.specs.declared.rule.GlueRule.TheVariants as rule
 use Rattle.presuppositions.specs.declared.source.Label.TheVariants as label
-use Rattle.presuppositions.proofs.EntryLaws.{answers}
+use Rattle.presuppositions.specs.Entries.{has_none}
+use Rattle.presuppositions.proofs.EntryLaws.{answers, one-of}
 use Rattle.glue_entries.specs.Statements.{equiv_tycong_statement}
-use Rattle.glue_entries.proofs.GlueNone.{none-type}
 use Rattle.glue_entries.proofs.gluing.type_of_glue.Goals as goal
 
 pub returns-in-GlueU : goal.returns-in-GlueU
@@ -38,4 +38,4 @@ pub returns-in-GlueEta : goal.returns-in-GlueEta
 returns-in-GlueEta c = answers (λ r. Gluing r) (equiv_tycong_statement ∷ []) label.Type c.args.rule rule.GlueEta c.in-GlueEta.is _ _ _ c.at_hand-in-GlueEta.result c.at_hand-in-GlueEta.ensures refl
 
 pub returns-in-GlueTy : goal.returns-in-GlueTy
-returns-in-GlueTy c = none-type c.args.rule c.in-GlueTy.is
+returns-in-GlueTy c = one-of (λ r. has_none (Gluing r) label.Type) c.args.rule (rule.GlueTy ∷ rule.GlueTyFace ∷ rule.GlueTyCong ∷ []) c.in-GlueTy.is refl

@@ -1,9 +1,9 @@
-use Rattle.std.proofs.Common.{refl}
+use Rattle.std.proofs.Common.{refl, [], ◌∷◌}
 use Rattle.theory.specs.declared.rule.RuleName.TheVariants.{Naturals}
 use Rattle.theory.specs.declared.rule.NatRule.TheVariants as rule
 use Rattle.presuppositions.specs.declared.source.Label.TheVariants as label
-use Rattle.presuppositions.proofs.EntryLaws.{answers}
-use Rattle.path_entries.proofs.NatNone.{none-right}
+use Rattle.presuppositions.specs.Entries.{has_none}
+use Rattle.presuppositions.proofs.EntryLaws.{answers, one-of}
 use Rattle.path_entries.proofs.naturals.right_of_nat.Goals as goal
 
 pub returns-in-SucCong : goal.returns-in-SucCong
@@ -19,4 +19,4 @@ pub returns-in-NatRecSuc : goal.returns-in-NatRecSuc
 returns-in-NatRecSuc c = λ earlier. answers (λ r. Naturals r) earlier label.Right c.args.rule rule.NatRecSuc c.in-NatRecSuc.is _ _ _ c.derived-in-NatRecSuc.result c.derived-in-NatRecSuc.ensures refl
 
 pub returns-in-NatU : goal.returns-in-NatU
-returns-in-NatU c = λ earlier. none-right c.args.rule c.in-NatU.is
+returns-in-NatU c = λ earlier. one-of (λ r. has_none (Naturals r) label.Right) c.args.rule (rule.NatU ∷ rule.Zero ∷ rule.Suc ∷ rule.NatRec ∷ []) c.in-NatU.is refl

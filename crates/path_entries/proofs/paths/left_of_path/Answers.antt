@@ -1,9 +1,9 @@
-use Rattle.std.proofs.Common.{refl}
+use Rattle.std.proofs.Common.{refl, [], ◌∷◌}
 use Rattle.theory.specs.declared.rule.RuleName.TheVariants.{Paths}
 use Rattle.theory.specs.declared.rule.PathRule.TheVariants as rule
 use Rattle.presuppositions.specs.declared.source.Label.TheVariants as label
-use Rattle.presuppositions.proofs.EntryLaws.{answers}
-use Rattle.path_entries.proofs.PathNone.{none-left}
+use Rattle.presuppositions.specs.Entries.{has_none}
+use Rattle.presuppositions.proofs.EntryLaws.{answers, one-of}
 use Rattle.path_entries.proofs.paths.left_of_path.Goals as goal
 
 pub returns-in-PathTyCong : goal.returns-in-PathTyCong
@@ -28,4 +28,4 @@ pub returns-in-PathEta : goal.returns-in-PathEta
 returns-in-PathEta c = λ earlier. answers (λ r. Paths r) earlier label.Left c.args.rule rule.PathEta c.in-PathEta.is _ _ _ c.at_hand.result c.at_hand.ensures refl
 
 pub returns-in-PathTy : goal.returns-in-PathTy
-returns-in-PathTy c = λ earlier. none-left c.args.rule c.in-PathTy.is
+returns-in-PathTy c = λ earlier. one-of (λ r. has_none (Paths r) label.Left) c.args.rule (rule.PathTy ∷ rule.PathU ∷ rule.PLam ∷ rule.PApp ∷ []) c.in-PathTy.is refl

@@ -1,7 +1,8 @@
 use Rattle.std.proofs.Common.{subst, sym}
 use Rattle.theory.specs.declared.rule.RuleName.TheVariants.{Paths}
-use Rattle.presuppositions.specs.Entries.{Answers}
-use Rattle.path_entries.proofs.PathNone.{none-label}
+use Rattle.presuppositions.specs.Entries.{Answers, has_none}
+use Rattle.presuppositions.proofs.EntryLaws.{one-of}
+use Rattle.path_entries.proofs.PathLabels.{others, none-others}
 use Rattle.path_entries.proofs.paths.path_entry.Goals as goal
 
 pub returns-in-Context : goal.returns-in-Context
@@ -26,4 +27,4 @@ pub returns-in-RightEnd : goal.returns-in-RightEnd
 returns-in-RightEnd c = λ earlier. subst (λ l. Answers earlier (Paths c.args.rule) l c.right_end_of_path.result) (sym c.in-RightEnd.is) (c.right_end_of_path.ensures earlier)
 
 pub returns-in-From : goal.returns-in-From
-returns-in-From c = λ earlier. none-label c.args.rule c.args.label c.in-From.is
+returns-in-From c = λ earlier. one-of (has_none (Paths c.args.rule)) c.args.label others c.in-From.is (none-others c.args.rule)

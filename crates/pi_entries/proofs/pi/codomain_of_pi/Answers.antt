@@ -1,13 +1,13 @@
-use Rattle.std.proofs.Common.{refl}
+use Rattle.std.proofs.Common.{refl, [], ◌∷◌}
 use Rattle.theory.specs.declared.rule.RuleName.TheVariants.{Pi}
 use Rattle.theory.specs.declared.rule.PiRule.TheVariants as rule
 use Rattle.presuppositions.specs.declared.source.Label.TheVariants as label
-use Rattle.presuppositions.proofs.EntryLaws.{answers}
-use Rattle.pi_entries.proofs.PiNone.{none-codomain}
+use Rattle.presuppositions.specs.Entries.{has_none}
+use Rattle.presuppositions.proofs.EntryLaws.{answers, one-of}
 use Rattle.pi_entries.proofs.pi.codomain_of_pi.Goals as goal
 
 pub returns-in-PiTy : goal.returns-in-PiTy
 returns-in-PiTy c = λ earlier. answers (λ r. Pi r) earlier label.Codomain c.args.rule rule.PiTy c.in-PiTy.is _ _ _ c.at_hand.result c.at_hand.ensures refl
 
 pub returns-in-PiU : goal.returns-in-PiU
-returns-in-PiU c = λ earlier. none-codomain c.args.rule c.in-PiU.is
+returns-in-PiU c = λ earlier. one-of (λ r. has_none (Pi r) label.Codomain) c.args.rule (rule.PiU ∷ rule.PiTyCong ∷ rule.PiUCong ∷ rule.Lam ∷ rule.App ∷ rule.AppCong ∷ rule.PiBeta ∷ rule.PiEta ∷ []) c.in-PiU.is refl

@@ -1,7 +1,8 @@
 use Rattle.std.proofs.Common.{subst, sym}
 use Rattle.theory.specs.declared.rule.RuleName.TheVariants.{Pi}
-use Rattle.presuppositions.specs.Entries.{Answers}
-use Rattle.pi_entries.proofs.PiNone.{none-label}
+use Rattle.presuppositions.specs.Entries.{Answers, has_none}
+use Rattle.presuppositions.proofs.EntryLaws.{one-of}
+use Rattle.pi_entries.proofs.PiLabels.{others, none-others}
 use Rattle.pi_entries.proofs.pi.pi_entry.Goals as goal
 
 pub returns-in-Context : goal.returns-in-Context
@@ -23,4 +24,4 @@ pub returns-in-Codomain : goal.returns-in-Codomain
 returns-in-Codomain c = λ earlier. subst (λ l. Answers earlier (Pi c.args.rule) l c.codomain_of_pi.result) (sym c.in-Codomain.is) (c.codomain_of_pi.ensures earlier)
 
 pub returns-in-From : goal.returns-in-From
-returns-in-From c = λ earlier. none-label c.args.rule c.args.label c.in-From.is
+returns-in-From c = λ earlier. one-of (has_none (Pi c.args.rule)) c.args.label others c.in-From.is (none-others c.args.rule)

@@ -1,9 +1,9 @@
-use Rattle.std.proofs.Common.{refl}
+use Rattle.std.proofs.Common.{refl, [], ◌∷◌}
 use Rattle.theory.specs.declared.rule.RuleName.TheVariants.{Pi}
 use Rattle.theory.specs.declared.rule.PiRule.TheVariants as rule
 use Rattle.presuppositions.specs.declared.source.Label.TheVariants as label
-use Rattle.presuppositions.proofs.EntryLaws.{answers}
-use Rattle.pi_entries.proofs.PiNone.{none-right}
+use Rattle.presuppositions.specs.Entries.{has_none}
+use Rattle.presuppositions.proofs.EntryLaws.{answers, one-of}
 use Rattle.pi_entries.proofs.pi.right_of_pi.Goals as goal
 
 pub returns-in-PiTyCong : goal.returns-in-PiTyCong
@@ -22,4 +22,4 @@ pub returns-in-PiEta : goal.returns-in-PiEta
 returns-in-PiEta c = λ earlier. answers (λ r. Pi r) earlier label.Right c.args.rule rule.PiEta c.in-PiEta.is _ _ _ c.at_hand.result c.at_hand.ensures refl
 
 pub returns-in-PiTy : goal.returns-in-PiTy
-returns-in-PiTy c = λ earlier. none-right c.args.rule c.in-PiTy.is
+returns-in-PiTy c = λ earlier. one-of (λ r. has_none (Pi r) label.Right) c.args.rule (rule.PiTy ∷ rule.PiU ∷ rule.Lam ∷ rule.App ∷ []) c.in-PiTy.is refl

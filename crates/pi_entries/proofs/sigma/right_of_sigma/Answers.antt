@@ -1,9 +1,9 @@
-use Rattle.std.proofs.Common.{refl}
+use Rattle.std.proofs.Common.{refl, [], ◌∷◌}
 use Rattle.theory.specs.declared.rule.RuleName.TheVariants.{Sigma}
 use Rattle.theory.specs.declared.rule.SigmaRule.TheVariants as rule
 use Rattle.presuppositions.specs.declared.source.Label.TheVariants as label
-use Rattle.presuppositions.proofs.EntryLaws.{answers}
-use Rattle.pi_entries.proofs.SigmaNone.{none-right}
+use Rattle.presuppositions.specs.Entries.{has_none}
+use Rattle.presuppositions.proofs.EntryLaws.{answers, one-of}
 use Rattle.pi_entries.proofs.sigma.right_of_sigma.Goals as goal
 
 pub returns-in-SigTyCong : goal.returns-in-SigTyCong
@@ -28,4 +28,4 @@ pub returns-in-SigEta : goal.returns-in-SigEta
 returns-in-SigEta c = λ earlier. answers (λ r. Sigma r) earlier label.Right c.args.rule rule.SigEta c.in-SigEta.is _ _ _ c.at_hand-in-SigEta.result c.at_hand-in-SigEta.ensures refl
 
 pub returns-in-SigTy : goal.returns-in-SigTy
-returns-in-SigTy c = λ earlier. none-right c.args.rule c.in-SigTy.is
+returns-in-SigTy c = λ earlier. one-of (λ r. has_none (Sigma r) label.Right) c.args.rule (rule.SigTy ∷ rule.SigU ∷ rule.Pair ∷ rule.Fst ∷ rule.Snd ∷ []) c.in-SigTy.is refl

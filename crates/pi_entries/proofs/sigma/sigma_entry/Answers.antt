@@ -1,7 +1,8 @@
 use Rattle.std.proofs.Common.{subst, sym}
 use Rattle.theory.specs.declared.rule.RuleName.TheVariants.{Sigma}
-use Rattle.presuppositions.specs.Entries.{Answers}
-use Rattle.pi_entries.proofs.SigmaNone.{none-label}
+use Rattle.presuppositions.specs.Entries.{Answers, has_none}
+use Rattle.presuppositions.proofs.EntryLaws.{one-of}
+use Rattle.pi_entries.proofs.SigmaLabels.{others, none-others}
 use Rattle.pi_entries.proofs.sigma.sigma_entry.Goals as goal
 
 pub returns-in-Context : goal.returns-in-Context
@@ -23,4 +24,4 @@ pub returns-in-Codomain : goal.returns-in-Codomain
 returns-in-Codomain c = λ earlier. subst (λ l. Answers earlier (Sigma c.args.rule) l c.codomain_of_sigma.result) (sym c.in-Codomain.is) (c.codomain_of_sigma.ensures earlier)
 
 pub returns-in-From : goal.returns-in-From
-returns-in-From c = λ earlier. none-label c.args.rule c.args.label c.in-From.is
+returns-in-From c = λ earlier. one-of (has_none (Sigma c.args.rule)) c.args.label others c.in-From.is (none-others c.args.rule)

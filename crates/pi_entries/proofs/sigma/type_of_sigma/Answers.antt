@@ -1,9 +1,9 @@
-use Rattle.std.proofs.Common.{refl}
+use Rattle.std.proofs.Common.{refl, [], ◌∷◌}
 use Rattle.theory.specs.declared.rule.RuleName.TheVariants.{Sigma}
 use Rattle.theory.specs.declared.rule.SigmaRule.TheVariants as rule
 use Rattle.presuppositions.specs.declared.source.Label.TheVariants as label
-use Rattle.presuppositions.proofs.EntryLaws.{answers}
-use Rattle.pi_entries.proofs.SigmaNone.{none-type}
+use Rattle.presuppositions.specs.Entries.{has_none}
+use Rattle.presuppositions.proofs.EntryLaws.{answers, one-of}
 use Rattle.pi_entries.proofs.sigma.type_of_sigma.Goals as goal
 
 pub returns-in-SigU : goal.returns-in-SigU
@@ -37,4 +37,4 @@ pub returns-in-SigEta : goal.returns-in-SigEta
 returns-in-SigEta c = λ earlier. answers (λ r. Sigma r) earlier label.Type c.args.rule rule.SigEta c.in-SigEta.is _ _ _ c.at_hand-in-SigEta.result c.at_hand-in-SigEta.ensures refl
 
 pub returns-in-SigTy : goal.returns-in-SigTy
-returns-in-SigTy c = λ earlier. none-type c.args.rule c.in-SigTy.is
+returns-in-SigTy c = λ earlier. one-of (λ r. has_none (Sigma r) label.Type) c.args.rule (rule.SigTy ∷ rule.SigTyCong ∷ []) c.in-SigTy.is refl
