@@ -1,0 +1,16 @@
+pub mod Moving
+pub mod UnderLaws
+pub mod SideLaws
+pub mod FormSteps
+pub mod Blocks
+pub mod PlaceLaws
+pub mod UnderSteps
+pub mod SideSteps
+pub mod Wholes
+pub mod CodeForms
+pub mod Arms
+pub mod Answered
+pub mod BindingSteps
+pub mod AppliedSteps
+pub mod SystemSteps
+pub mod BlockSteps

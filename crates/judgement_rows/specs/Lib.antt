@@ -1,0 +1,6 @@
+pub mod Bodies
+pub mod Forms
+pub mod Places
+pub mod Steps
+pub mod Under
+pub mod Words

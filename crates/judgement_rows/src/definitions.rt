@@ -1,0 +1,112 @@
+//! Definitions, and the judgements that they state.
+
+ghost use Rattle.std.specs.Prelude.{◌≡◌, ℕ, [], map, Some, IfOk, OnOk};
+ghost use Rattle.trees.specs.Things.{Kept};
+ghost use Rattle.trees.specs.Claimed.{claimed};
+ghost use Rattle.translation.specs.Scopes.{Scope};
+ghost use Rattle.translation.specs.Translated.{judgements_of};
+ghost use Rattle.codes.specs.Codes.{body_of, definitions};
+ghost use Rattle.form_rows.specs.Meant.{Is};
+ghost use Rattle.judgement_rows.specs.Steps.{Fits, FitsSome, state};
+ghost use Rattle.judgement_rows.specs.Words.{Defines, block_scope, def_scope};
+
+use crate::bodies::{Bodies, Body};
+use crate::places::Place;
+use crate::terms::Spelling;
+use codes::CodeDef;
+use form_rows::{lifted, nested};
+use rows::Maker;
+use std::alloc::{AllocError, Global};
+use trees::{Claim, Op};
+
+impl Spelling {
+    /// The body of a definition, weakened to the place. One that is not in scope is the universe.
+    pub(crate) fn defined<M: Maker>(
+        &self,
+        maker: &mut M,
+        place: Place,
+        number: u32,
+    ) -> Result<u64, AllocError>
+        requires { FitsSome (state (M.means maker.old) self.now) place }
+        ensures kept { Kept (M.means maker.old) (M.means maker.new) }
+        ensures body { IfOk result (λ r. (H : Scope ℕ) →
+            Fits (state (M.means maker.old) self.now) place H
+            → Is (M.means maker.new) r (body_of H number)) }
+    {
+        match self.bodies.find(number) {
+            Some(body) => {
+                let by = place.depth.saturating_sub(body.depth);
+                Ok(lifted(maker, body.row, by)?)
+            }
+            None => Ok(maker.make(Op::U, &[])?),
+        }
+    }
+
+    /// Definitions, which stay in scope.
+    #[cycle(spell)]
+    pub(crate) fn block<M: Maker>(
+        &mut self,
+        maker: &mut M,
+        place: Place,
+        defs: &[CodeDef],
+    ) -> Result<(), AllocError>
+        requires { FitsSome (state (M.means maker.old) self.old) place }
+        ensures kept { Kept (M.means maker.old) (M.means maker.new) }
+        ensures defines { OnOk result (Defines (state (M.means maker.old) self.old)
+            (state (M.means maker.new) self.new) place (block_scope defs.now)) }
+    {
+        for def in defs {
+            self.definition(maker, place, def)?;
+        }
+        Ok(())
+    }
+
+    /// A definition, whose judgements are claimed after those of the ones that it holds.
+    #[cycle(spell)]
+    fn definition<M: Maker>(
+        &mut self,
+        maker: &mut M,
+        place: Place,
+        def: &CodeDef,
+    ) -> Result<(), AllocError>
+        requires { FitsSome (state (M.means maker.old) self.old) place }
+        ensures kept { Kept (M.means maker.old) (M.means maker.new) }
+        ensures defines { OnOk result (Defines (state (M.means maker.old) self.old)
+            (state (M.means maker.new) self.new) place (def_scope def.now)) }
+    {
+        let under = self.under(maker, place, &def.binders)?;
+        let ty = self.code(maker, under.place, &def.ty)?;
+        let body = self.code(maker, under.place, &def.body)?;
+        let ty = nested(maker, Op::Pi, &under.types, ty)?;
+        let row = nested(maker, Op::Lam, &under.types, body)?;
+        self.claims.push(Claim::Ty(place.context, ty))?;
+        self.claims.push(Claim::Tm(place.context, row, ty))?;
+        self.bodies.push(Body {
+            number: def.number,
+            row,
+            depth: place.depth,
+        })?;
+        Ok(())
+    }
+}
+
+/// The claims of the judgements of definitions, in order: for each its type and then its body, those
+/// of local ones before those of what holds them.
+pub fn claims_of<M: Maker>(
+    alloc: Global,
+    maker: &mut M,
+    defs: &[CodeDef],
+) -> Result<Vec<Claim>, AllocError>
+    ensures kept { Kept (M.means maker.old) (M.means maker.new) }
+    ensures claims { IfOk result (λ cs. map (claimed (M.means maker.new)) cs.items
+        ≡ map Some (judgements_of (definitions defs.now []).stated)) }
+{
+    let context = maker.ctx_nil()?;
+    let mut spelling = Spelling {
+        alloc,
+        bodies: Bodies::new(alloc),
+        claims: Vec::new(alloc),
+    };
+    spelling.block(maker, Place { context, depth: 0 }, defs)?;
+    Ok(spelling.claims)
+}
