@@ -1,5 +1,5 @@
 -- Heads and what they are applied to, codes in order, and what is opened.
-use Rattle.std.proofs.Common.{◌≡◌, ℕ, List, [], ◌∷◌, ◌++◌, map, refl, sym, ap, ◌∙◌, subst}
+use Rattle.std.proofs.Common.{◌≡◌, ℕ, List, [], ◌∷◌, ◌++◌, map, refl, sym, ap, subst}
 use Rattle.std.specs.Prelude.{option_and_then}
 use Rattle.layout_lexer.specs.declared.token.Span.{Span}
 use Rattle.trees.specs.declared.op.Op.TheVariants as op
@@ -13,9 +13,9 @@ use Rattle.codes.specs.declared.code.Code.{Code}
 use Rattle.codes.specs.declared.code.Element.{Element, Argument as Argument', At as At'}
 use Rattle.codes.specs.declared.code.Opened.{Opened, Under as Under', Applied as Applied'}
 use Rattle.codes.specs.declared.formula.Formula.{Formula}
-use Rattle.codes.specs.Codes.{meaning, element, formula}
+use Rattle.codes.specs.Codes.{meaning, element}
 use Rattle.codes.proofs.Logs.{map_append}
-use Rattle.form_rows.specs.Meant.{Is, Are, AreTrees}
+use Rattle.form_rows.specs.Meant.{Is, AreTrees}
 use Rattle.form_rows.specs.Formulas.{formula_tree}
 use Rattle.form_rows.proofs.RowLaws.{kept_then, is_kept, are_kept, are_none, are_two, are_push, is_made}
 use Rattle.judgement_rows.specs.declared.places.Place.{Place}
@@ -26,7 +26,7 @@ use Rattle.judgement_rows.proofs.FormSteps.{spells_leaf, spells_map, spells_same
 use Rattle.judgement_rows.proofs.SideLaws.{formula_is}
 use Rattle.judgement_rows.proofs.SideSteps.{applied_push, codes_none, codes_more}
 use Rattle.judgement_rows.proofs.Arms.{with_rows, more_rows}
-use Rattle.judgement_rows.proofs.Answered.{makes_same, spells_by}
+use Rattle.judgement_rows.proofs.Answered.{makes_same}
 
 -- heads
 

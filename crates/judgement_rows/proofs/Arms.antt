@@ -1,26 +1,24 @@
 -- Operators over codes that were spelt one after another.
-use Rattle.std.proofs.Common.{◌≡◌, ℕ, List, [], ◌∷◌, length, Some, IsSome, refl, sym, ap, ◌∙◌, subst}
+use Rattle.std.proofs.Common.{◌≡◌, ℕ, List, [], ◌∷◌, IsSome, refl, sym}
 use Rattle.std.specs.Prelude.{option_and_then}
 use Rattle.trees.specs.declared.op.Op.{Op}
 use Rattle.trees.specs.declared.op.Op.TheVariants as op
 use Rattle.trees.specs.Operators.{kids_of}
 use Rattle.trees.specs.Trees.{Tree, Make, trees_of}
 use Rattle.trees.specs.Things.{Meanings, Kept, meanings, made}
-use Rattle.rows.specs.Views.{IsTree}
 use Rattle.translation.specs.Terms.{comp, glue_type, glue, unglue, f0, empty}
 use Rattle.translation.specs.Systems.{On, cover, body, line_body, filling}
-use Rattle.translation.specs.Scopes.{Scope}
 use Rattle.translation.specs.Translated.{done, ◌>>=◌}
 use Rattle.translation.specs.Forms.{Means, types, equivalences}
-use Rattle.form_rows.specs.Meant.{Is, Are}
-use Rattle.form_rows.proofs.RowLaws.{kept_then, is_kept, are_none, are_one, are_two, are_three, are_four, is_made, may_make}
+use Rattle.form_rows.specs.Meant.{Is}
+use Rattle.form_rows.proofs.RowLaws.{kept_then, is_kept, are_none, are_one, are_three, are_four, is_made, may_make}
 use Rattle.judgement_rows.specs.declared.places.Place.{Place}
 use Rattle.judgement_rows.specs.declared.sides.System.{System}
 use Rattle.judgement_rows.specs.declared.sides.PairSystem.{PairSystem}
-use Rattle.judgement_rows.specs.Steps.{State, Fits, FitsSome, Moves, Spells, Row}
+use Rattle.judgement_rows.specs.Steps.{State, FitsSome, Spells, Row}
 use Rattle.judgement_rows.specs.Words.{IsSystem, IsLineSystem, IsPairSystem}
 use Rattle.judgement_rows.proofs.Moving.{Makes, given, some_after}
-use Rattle.judgement_rows.proofs.FormSteps.{spells_map, spells_two, spells_three, spells_four, spelt_tree}
+use Rattle.judgement_rows.proofs.FormSteps.{spells_map, spells_two, spells_three, spells_four}
 
 -- the same state, with more rows
 abbrev pub with_rows : State → Meanings → State

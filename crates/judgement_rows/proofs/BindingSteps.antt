@@ -1,5 +1,5 @@
 -- Places and rows under definitions, binders and names.
-use Rattle.std.proofs.Common.{◌≡◌, ℕ, List, [], ◌∷◌, ◌++◌, map, take, replicate, refl, sym, ap, ◌∙◌, subst}
+use Rattle.std.proofs.Common.{◌≡◌, ℕ, List, [], ◌∷◌, ◌++◌, take, sym, subst}
 use Rattle.trees.specs.declared.op.Op.{Op}
 use Rattle.trees.specs.Trees.{Tree, Make, trees_of}
 use Rattle.trees.specs.Things.{Meanings, Kept}
@@ -7,15 +7,14 @@ use Rattle.translation.specs.Scopes.{Scope}
 use Rattle.translation.specs.Forms.{Means}
 use Rattle.codes.specs.declared.code.Code.{Code}
 use Rattle.codes.specs.declared.code.Binder.{Binder}
-use Rattle.codes.specs.Codes.{meaning}
 use Rattle.form_rows.specs.Meant.{Is, Are, AreTrees, nest}
-use Rattle.form_rows.proofs.RowLaws.{kept_then, is_kept, trees_kept}
+use Rattle.form_rows.proofs.RowLaws.{trees_kept}
 use Rattle.judgement_rows.specs.declared.places.Place.{Place}
 use Rattle.judgement_rows.specs.declared.places.Under.{Under}
 use Rattle.judgement_rows.specs.declared.bodies.Body.{Body}
 use Rattle.judgement_rows.specs.Places.{BoundIn, AllNamedIn}
-use Rattle.judgement_rows.specs.Steps.{State, Fits, FitsSome, Spells, Row}
-use Rattle.judgement_rows.specs.Under.{intervals, folded}
+use Rattle.judgement_rows.specs.Steps.{State, FitsSome, Spells, Row}
+use Rattle.judgement_rows.specs.Under.{intervals}
 use Rattle.judgement_rows.specs.Words.{IsUnder, Defines, code_tree, over_tree, under_trees}
 use Rattle.judgement_rows.proofs.Moving.{Makes}
 use Rattle.judgement_rows.proofs.UnderSteps.{under_none, under_more, fits_names, closed_under}

@@ -1,12 +1,11 @@
 -- Definitions one after another, and from the rows of their parts.
-use Rattle.std.proofs.Common.{◌≡◌, ◌≤◌, ℕ, length, take, List, [], ◌∷◌, ◌++◌, map, refl, sym, ap, ◌∙◌, subst, append_assoc}
+use Rattle.std.proofs.Common.{◌≡◌, ◌≤◌, ℕ, length, take, List, [], ◌∷◌, ◌++◌, map, sym, ap, ◌∙◌, subst, append_assoc}
 use Rattle.trees.specs.declared.op.Op.TheVariants as op
-use Rattle.trees.specs.declared.claim.Claim.{Claim}
 use Rattle.trees.specs.declared.claim.Claim.TheVariants as claim
 use Rattle.trees.specs.Trees.{Tree}
 use Rattle.trees.specs.Things.{Meanings, Kept}
 use Rattle.translation.specs.Translated.{done}
-use Rattle.translation.specs.Forms.{Means, define, defined}
+use Rattle.translation.specs.Forms.{define, defined}
 use Rattle.codes.specs.declared.code.CodeDef.{CodeDef, out-CodeDef, roll-out-CodeDef}
 use Rattle.codes.specs.Codes.{meaning, binder, definition, definitions}
 use Rattle.codes.proofs.Rows.{definition_of}

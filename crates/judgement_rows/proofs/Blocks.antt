@@ -1,18 +1,17 @@
 -- Definitions, and what stands after them.
-use Rattle.std.proofs.Common.{◌≡◌, ◌==◌, ◌+◌, ◌-◌, ◌<◌, ◌≤◌, ℕ, zero, suc, Bool, true, false, List, [], ◌∷◌, ◌++◌, map, length, get_or, take, Option, Some, None, refl, sym, ap, ap₂, ◌∙◌, arith, subst, append_assoc, if◌then◌else◌}
+use Rattle.std.proofs.Common.{◌≡◌, ◌==◌, ◌+◌, ◌-◌, ◌<◌, ℕ, true, false, List, [], ◌∷◌, ◌++◌, map, length, get_or, take, Option, Some, None, refl, sym, ap, ap₂, ◌∙◌, arith, subst, if◌then◌else◌}
 use Rattle.trees.specs.declared.op.Op.TheVariants as op
 use Rattle.trees.specs.Trees.{Tree, apply, shift_by}
 use Rattle.trees.specs.Language.{Ty, Tm}
-use Rattle.trees.specs.Judgements.{Context, Judgement}
-use Rattle.trees.specs.Things.{Meanings, ATree, AContext, Kept}
+use Rattle.trees.specs.Judgements.{Context}
+use Rattle.trees.specs.Things.{Meanings, AContext, Kept}
 use Rattle.trees.specs.Claimed.{claimed}
-use Rattle.trees.specs.declared.claim.Claim.{Claim}
 use Rattle.trees.specs.declared.claim.Claim.TheVariants as claim
 use Rattle.trees.proofs.Meanings.{kept-same}
 use Rattle.substitution.proofs.ThenLaws.{apply-id}
 use Rattle.translation.specs.Terms.{pi, lam}
 use Rattle.translation.specs.Scopes.{Scope, Definition, context_of}
-use Rattle.translation.specs.Translated.{Translated, Stated, done, states, ◌>>=◌, with, judgements_of}
+use Rattle.translation.specs.Translated.{done, states, ◌>>=◌, with}
 use Rattle.translation.specs.Forms.{Means, after, define, defined, under}
 use Rattle.codes.specs.declared.code.CodeDef.{CodeDef}
 use Rattle.codes.specs.declared.code.Binder.{Binder}
@@ -24,10 +23,10 @@ use Rattle.judgement_rows.specs.declared.places.Place.{Place}
 use Rattle.judgement_rows.specs.declared.places.Under.{Under}
 use Rattle.judgement_rows.specs.declared.bodies.Body.{Body}
 use Rattle.judgement_rows.specs.Bodies.{newest, later}
-use Rattle.judgement_rows.specs.Steps.{State, Fits, FitsSome, Stands, StandsFor, Moves, Spells, Row, Claims}
+use Rattle.judgement_rows.specs.Steps.{State, Fits, Stands, StandsFor, Moves, Spells, Row}
 use Rattle.judgement_rows.specs.Words.{IsUnder, Defines}
 use Rattle.judgement_rows.specs.Under.{entered, folded}
-use Rattle.judgement_rows.proofs.Moving.{moves_done, moves_then, moves_as, claims_then, claims_none, fits_kept, Makes}
+use Rattle.judgement_rows.proofs.Moving.{moves_done, moves_then, moves_as, fits_kept}
 use Rattle.judgement_rows.proofs.UnderLaws.{under_is}
 
 -- definitions in order

@@ -5,11 +5,11 @@ use Rattle.syntax.specs.declared.formula.Projections.{Projections}
 use Rattle.syntax.specs.declared.formula.Projection.{Projection}
 use Rattle.trees.specs.declared.op.Op.TheVariants as op
 use Rattle.trees.specs.Trees.{Tree, Var}
-use Rattle.translation.specs.Terms.{universe, nat, zero, suc, pi, sig, lam, pair, comp, glue_type, glue, unglue}
+use Rattle.translation.specs.Terms.{universe, nat, zero, suc, pair, comp, glue_type, glue, unglue}
 use Rattle.translation.specs.Scopes.{Scope}
-use Rattle.translation.specs.Systems.{On, cover, body, line_body, filling}
-use Rattle.translation.specs.Translated.{Translated, done, ◌>>=◌}
-use Rattle.translation.specs.Forms.{Means, all, types, equivalences, one, after, under, under_names, application, apply_all, tuple, project, path_type, composition, fill, transport, glue_of_types, glue_of_terms, unglued}
+use Rattle.translation.specs.Systems.{cover, body, line_body, filling}
+use Rattle.translation.specs.Translated.{done, ◌>>=◌}
+use Rattle.translation.specs.Forms.{Means, all, types, equivalences, one, after, under_names, tuple, project, path_type, transport}
 use Rattle.codes.specs.declared.code.Code.{Code, Bound as Bound_, Defined as Defined_, Universe as Universe_, Nat as Nat_, Zero as Zero_, Let as Let_, Suc as Suc_, NatRec as NatRec_, Pi as Pi_, Sigma as Sigma_, Lambda as Lambda_, PathLambda as PathLambda_, Apply as Apply_, Project as Project_, Tuple as Tuple_, PathP as PathP_, Comp as Comp_, Fill as Fill_, Transport as Transport_, GlueType as GlueType_, GlueTerm as GlueTerm_, Unglue as Unglue_}
 use Rattle.codes.specs.declared.code.CodeDef.{CodeDef}
 use Rattle.codes.specs.declared.code.Binder.{Binder}
@@ -18,7 +18,7 @@ use Rattle.codes.specs.declared.code.Opened.{Opened}
 use Rattle.codes.specs.declared.code.Side.{Side}
 use Rattle.codes.specs.declared.code.LineSide.{LineSide}
 use Rattle.codes.specs.declared.code.PairSide.{PairSide}
-use Rattle.codes.specs.Codes.{meaning, binder, body_of, recursion, term_side, line_side, pair_side}
+use Rattle.codes.specs.Codes.{meaning, body_of, recursion}
 use Rattle.codes.proofs.Logs.{then_assoc, then_done, then_same}
 use Rattle.codes.proofs.Rows.{meaning_of-Let, meaning_of-Pi, meaning_of-Sigma, meaning_of-Lambda, meaning_of-Apply, meaning_of-Tuple, meaning_of-Comp, meaning_of-Fill, meaning_of-GlueType, meaning_of-GlueTerm, meaning_of-Unglue}
 use Rattle.form_rows.specs.Meant.{nest_all}

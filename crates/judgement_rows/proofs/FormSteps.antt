@@ -1,20 +1,17 @@
 -- Forms of several parts, and rows that are made of those of the parts.
-use Rattle.std.proofs.Common.{◌≡◌, ℕ, List, [], ◌∷◌, ◌++◌, map, length, Some, IsSome, refl, sym, ap, ◌∙◌, subst}
-use Rattle.std.specs.Prelude.{option_and_then}
-use Rattle.trees.specs.declared.op.Op.{Op}
-use Rattle.trees.specs.Operators.{kids_of}
-use Rattle.trees.specs.Trees.{Tree, Make, trees_of}
-use Rattle.trees.specs.Things.{Meanings, Kept, meanings, made}
+use Rattle.std.proofs.Common.{◌≡◌, ℕ, ◌∷◌, ◌++◌, refl, ap, ◌∙◌, subst}
+use Rattle.trees.specs.Trees.{Tree}
+use Rattle.trees.specs.Things.{Meanings, Kept}
 use Rattle.rows.specs.Views.{IsTree, IsContext}
 use Rattle.translation.specs.Scopes.{Scope, context_of, Variable, Interval, Face}
 use Rattle.translation.specs.Translated.{Translated, done, ◌>>=◌}
 use Rattle.translation.specs.Forms.{Means}
-use Rattle.form_rows.specs.Meant.{Is, Are}
-use Rattle.form_rows.proofs.RowLaws.{kept_then, is_kept, tree_kept, tree_of_is, is_of, may_make, is_made, are_one, are_two, are_three, are_four}
+use Rattle.form_rows.specs.Meant.{Is}
+use Rattle.form_rows.proofs.RowLaws.{kept_then, tree_of_is, is_of}
 use Rattle.judgement_rows.specs.declared.places.Place.{Place}
 use Rattle.judgement_rows.specs.Places.{OpenedIn, NamedIn, FacedIn}
-use Rattle.judgement_rows.specs.Steps.{State, Fits, FitsSome, Moves, Spells, Row, Claims}
-use Rattle.judgement_rows.proofs.Moving.{moves_done, moves_then, moves_as, fits_kept, fits_name, fits_variable, fits_face, some_kept, some_after, given, Makes, spells_then}
+use Rattle.judgement_rows.specs.Steps.{State, Fits, FitsSome, Moves, Spells, Row}
+use Rattle.judgement_rows.proofs.Moving.{moves_done, moves_then, fits_kept, fits_name, fits_variable, fits_face, given, Makes, spells_then}
 
 -- the row of a code means a tree
 pub spelt_tree : {m : Means ℕ Tree} {s t : State} {p : Place} {r : ℕ} → FitsSome s p → Spells s t p (Row r) m → IsTree (t.means r)

@@ -1,16 +1,15 @@
 -- Steps of spelling, one after another.
-use Rattle.std.proofs.Common.{◌≡◌, ◌+◌, ◌-◌, ◌<◌, ◌≤◌, ℕ, zero, suc, List, [], ◌∷◌, ◌++◌, map, Option, Some, None, refl, sym, ap, ap₂, ◌∙◌, arith, subst, append_assoc}
-use Rattle.std.specs.Prelude.{option_and_then}
-use Rattle.trees.specs.Trees.{Tree, Var, apply, shift_by, up}
-use Rattle.trees.specs.Judgements.{Context, Judgement}
-use Rattle.trees.specs.Things.{Thing, Meanings, ATree, AContext, Kept, meanings}
+use Rattle.std.proofs.Common.{◌≡◌, ◌+◌, ◌-◌, ℕ, List, [], ◌∷◌, ◌++◌, map, Option, Some, None, refl, sym, ap, ap₂, ◌∙◌, arith, subst, append_assoc}
+use Rattle.trees.specs.Trees.{Tree, apply, shift_by, up}
+use Rattle.trees.specs.Judgements.{Judgement}
+use Rattle.trees.specs.Things.{Thing, Meanings, Kept, meanings}
 use Rattle.trees.specs.Claims.{form_of, rows_of}
-use Rattle.trees.specs.Claimed.{claimed, judged, said}
+use Rattle.trees.specs.Claimed.{claimed, said}
 use Rattle.trees.specs.declared.claim.Claim.{Claim}
-use Rattle.trees.proofs.Meanings.{meanings-kept, kept-same}
-use Rattle.substitution.proofs.ThenLaws.{apply-id, apply-apply, shift_by-then-shift_by}
-use Rattle.translation.specs.Terms.{lifted, universe}
-use Rattle.translation.specs.Scopes.{Scope, Variable, Interval, Face, Definition, context_of}
+use Rattle.trees.proofs.Meanings.{meanings-kept}
+use Rattle.substitution.proofs.ThenLaws.{apply-apply, shift_by-then-shift_by}
+use Rattle.translation.specs.Terms.{lifted}
+use Rattle.translation.specs.Scopes.{Scope, Variable, Interval, Face, context_of}
 use Rattle.translation.specs.Translated.{Translated, Stated, done, ◌>>=◌, judgements_of}
 use Rattle.translation.specs.Forms.{Means}
 use Rattle.codes.specs.Codes.{body_of}
@@ -21,7 +20,7 @@ use Rattle.judgement_rows.specs.declared.places.Place.{Place}
 use Rattle.judgement_rows.specs.declared.bodies.Body.{Body}
 use Rattle.judgement_rows.specs.Bodies.{newest}
 use Rattle.judgement_rows.specs.Places.{OpenedIn, NamedIn, FacedIn}
-use Rattle.judgement_rows.specs.Steps.{State, Fits, FitsSome, Stands, StandsFor, Claims, Moves, Spells, Row, depth_of}
+use Rattle.judgement_rows.specs.Steps.{State, Fits, FitsSome, StandsFor, Claims, Moves, Spells}
 
 -- claims go on to say what they say
 

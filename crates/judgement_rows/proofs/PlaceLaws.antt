@@ -1,5 +1,5 @@
 -- Places under one more name or variable than before.
-use Rattle.std.proofs.Common.{◌≡◌, ◌+◌, ◌-◌, ◌<◌, ◌≤◌, ℕ, zero, suc, List, [], ◌∷◌, ◌++◌, Some, refl, sym, ap, ◌∙◌, subst, arith, append_assoc}
+use Rattle.std.proofs.Common.{◌≡◌, ◌+◌, ℕ, zero, suc, [], ◌∷◌, ◌++◌, Some, refl, sym, ap, ◌∙◌, subst, arith, append_assoc}
 use Rattle.trees.specs.Trees.{Tree, apply, shift_by, up}
 use Rattle.trees.specs.Judgements.{Context, WithVar, WithName}
 use Rattle.trees.specs.Things.{Meanings, AContext, Kept}

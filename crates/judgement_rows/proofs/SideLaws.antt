@@ -1,20 +1,19 @@
 -- Systems of codes, over the rows of their faces and values.
-use Rattle.std.proofs.Common.{◌≡◌, ℕ, List, [], ◌∷◌, ◌++◌, map, refl, sym, ap, ap₂, ◌∙◌, subst}
+use Rattle.std.proofs.Common.{◌≡◌, ℕ, List, [], ◌∷◌, ◌++◌, map, refl, sym, ap, ap₂, ◌∙◌}
 use Rattle.syntax.specs.declared.formula.End.{End}
 use Rattle.syntax.specs.declared.formula.End.TheVariants as end
 use Rattle.trees.specs.declared.op.Op.TheVariants as op
 use Rattle.trees.specs.Trees.{Tree, Var, Make, trees_of}
-use Rattle.trees.specs.Things.{Meanings, Kept}
-use Rattle.translation.specs.Terms.{universe, lifted, pair, meet, f1}
-use Rattle.translation.specs.Systems.{On, on, each, cover, body, line_body, meet_of}
+use Rattle.translation.specs.Terms.{lifted, meet}
+use Rattle.translation.specs.Systems.{On, on, cover, body, line_body, meet_of}
 use Rattle.translation.specs.Scopes.{Scope, Face}
-use Rattle.translation.specs.Translated.{Translated, done, ◌>>=◌}
-use Rattle.translation.specs.Forms.{Means, Side, all, side, system, equation, types, equivalences}
+use Rattle.translation.specs.Translated.{done, ◌>>=◌}
+use Rattle.translation.specs.Forms.{Means, all, side, equation}
 use Rattle.codes.specs.declared.formula.Equation.{Equation}
 use Rattle.codes.specs.declared.formula.Formula.{Formula, Zero as Zero', One as One', Bound as Bound', Negate', Meet', Join'}
 use Rattle.codes.specs.Codes.{equations, side_of, formula}
-use Rattle.codes.proofs.Logs.{then_assoc, then_same, then_done}
-use Rattle.form_rows.specs.Meant.{Is, Are, nest, nest_all}
+use Rattle.codes.proofs.Logs.{then_assoc, then_same}
+use Rattle.form_rows.specs.Meant.{nest_all}
 use Rattle.form_rows.specs.Systems.{cover_of, body_of}
 use Rattle.form_rows.specs.Formulas.{formula_tree, equation_tree, face_tree}
 

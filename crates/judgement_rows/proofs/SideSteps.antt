@@ -1,24 +1,23 @@
 -- Sides, one after another, and what heads are applied to.
-use Rattle.std.proofs.Common.{◌≡◌, ℕ, List, [], ◌∷◌, ◌++◌, map, Some, refl, sym, ap, ap₂, ◌∙◌, subst}
+use Rattle.std.proofs.Common.{◌≡◌, ℕ, List, [], ◌∷◌, ◌++◌, map, refl, sym, ◌∙◌, subst}
 use Rattle.trees.specs.Trees.{Tree}
-use Rattle.trees.specs.Things.{Meanings, Kept}
+use Rattle.trees.specs.Things.{Kept}
 use Rattle.trees.proofs.Meanings.{kept-same}
 use Rattle.translation.specs.Terms.{app, papp}
-use Rattle.translation.specs.Systems.{On, on, cover, body}
-use Rattle.translation.specs.Scopes.{Scope, Face}
-use Rattle.translation.specs.Translated.{Translated, done, ◌>>=◌}
+use Rattle.translation.specs.Systems.{On, on}
+use Rattle.translation.specs.Scopes.{Scope}
+use Rattle.translation.specs.Translated.{◌>>=◌}
 use Rattle.translation.specs.Forms.{Means, Side, Element, all, side, system, apply_all, Argument, At}
 use Rattle.codes.specs.declared.formula.Equation.{Equation}
 use Rattle.codes.specs.Codes.{side_of}
-use Rattle.codes.proofs.Logs.{map_append, then_assoc, then_same, then_done}
+use Rattle.codes.proofs.Logs.{map_append, then_assoc, then_same}
 use Rattle.form_rows.specs.Meant.{Is, Are}
 use Rattle.form_rows.specs.Formulas.{face_tree}
 use Rattle.form_rows.proofs.RowLaws.{kept_then, is_kept, are_kept, are_none, are_push}
 use Rattle.judgement_rows.specs.declared.places.Place.{Place}
 use Rattle.judgement_rows.specs.Places.{FacedIn}
-use Rattle.judgement_rows.specs.Steps.{State, Fits, FitsSome, Moves, Spells, Row}
-use Rattle.judgement_rows.specs.Words.{Rows}
-use Rattle.judgement_rows.proofs.Moving.{moves_as, moves_done, Makes, spells_then}
+use Rattle.judgement_rows.specs.Steps.{State, Spells}
+use Rattle.judgement_rows.proofs.Moving.{moves_as, moves_done, Makes}
 use Rattle.judgement_rows.proofs.FormSteps.{spells_same, spells_map, spells_two, spells_in_face, spells_later}
 use Rattle.judgement_rows.proofs.SideLaws.{side_is, all_push}
 

@@ -3,21 +3,18 @@ use Rattle.std.proofs.Common.{◌≡◌, ℕ, List, [], ◌∷◌, ◌++◌, map
 use Rattle.std.proofs.lemmas.List.{length-map}
 use Rattle.trees.specs.Trees.{Tree}
 use Rattle.trees.specs.Things.{Meanings, Kept}
-use Rattle.translation.specs.Systems.{On, cover, body, line_body, each}
+use Rattle.translation.specs.Systems.{On, body, each}
 use Rattle.translation.specs.Terms.{lifted}
-use Rattle.translation.specs.Forms.{Means, system, types, equivalences}
-use Rattle.codes.specs.declared.code.Code.{Code}
-use Rattle.codes.specs.declared.code.Opened.{Opened}
+use Rattle.translation.specs.Forms.{Means, system}
 use Rattle.codes.specs.declared.code.Side.{Side}
 use Rattle.codes.specs.declared.code.LineSide.{LineSide}
 use Rattle.codes.specs.declared.code.PairSide.{PairSide}
-use Rattle.codes.specs.declared.formula.Equation.{Equation}
-use Rattle.codes.specs.Codes.{meaning, at_name, both, term_side, line_side, pair_side}
+use Rattle.codes.specs.Codes.{meaning, both, term_side, line_side, pair_side}
 use Rattle.codes.proofs.Logs.{map_append}
 use Rattle.form_rows.specs.Meant.{Is, Are, AreTrees}
 use Rattle.form_rows.specs.Systems.{cover_of, body_of}
 use Rattle.form_rows.specs.Formulas.{face_tree}
-use Rattle.form_rows.proofs.RowLaws.{kept_then, is_kept, are_kept, are_none, are_push, are_length, trees_kept}
+use Rattle.form_rows.proofs.RowLaws.{kept_then, is_kept, are_kept, are_none, are_push, are_length}
 use Rattle.judgement_rows.specs.declared.places.Place.{Place}
 use Rattle.judgement_rows.specs.declared.sides.System.{System}
 use Rattle.judgement_rows.specs.declared.sides.PairSystem.{PairSystem}

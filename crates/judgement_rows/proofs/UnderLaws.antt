@@ -1,15 +1,13 @@
 -- What stands under binders, in the order in which it is spelt.
-use Rattle.std.proofs.Common.{◌≡◌, ◌+◌, ◌-◌, ◌<◌, ◌≤◌, ℕ, zero, suc, List, [], ◌∷◌, ◌++◌, map, replicate, Some, refl, sym, ap, ap₂, ◌∙◌, arith, subst, append_assoc}
+use Rattle.std.proofs.Common.{◌≡◌, ℕ, zero, suc, List, [], ◌∷◌, ◌++◌, map, replicate, refl, sym, ap, ◌∙◌, append_assoc}
 use Rattle.std.proofs.Math.Path.{fun_ext}
-use Rattle.trees.specs.Trees.{Tree, apply, shift_by}
-use Rattle.trees.specs.Judgements.{Context, WithVar, WithName}
-use Rattle.trees.specs.Things.{Meanings, AContext, Kept}
+use Rattle.trees.specs.Trees.{Tree}
 use Rattle.translation.specs.Terms.{lifted, plam}
 use Rattle.translation.specs.Scopes.{Scope, Variable, Interval, context_of}
 use Rattle.translation.specs.Translated.{Translated, done, ◌>>=◌, with}
 use Rattle.translation.specs.Forms.{Means, over, under, under_names}
 use Rattle.codes.specs.declared.code.Binder.{Binder}
-use Rattle.codes.specs.Codes.{meaning, binder, body_of}
+use Rattle.codes.specs.Codes.{meaning, binder}
 use Rattle.codes.proofs.Logs.{append_empty, then_done, then_assoc, then_same}
 use Rattle.form_rows.specs.Systems.{path_lambdas}
 use Rattle.judgement_rows.specs.Places.{copies, with_names, with_variables}

@@ -1,28 +1,27 @@
 -- What is spelt under binders and names.
-use Rattle.std.proofs.Common.{◌≡◌, ◌+◌, ◌-◌, ◌<◌, ◌≤◌, ℕ, zero, suc, List, [], ◌∷◌, ◌++◌, map, replicate, Option, Some, refl, sym, ap, ap₂, ◌∙◌, arith, subst}
+use Rattle.std.proofs.Common.{◌≡◌, ◌+◌, ℕ, zero, suc, List, [], ◌∷◌, ◌++◌, map, replicate, Option, Some, refl, sym, ap, ◌∙◌, arith, subst}
 use Rattle.trees.specs.Trees.{Tree}
-use Rattle.trees.specs.Judgements.{Context}
-use Rattle.trees.specs.Things.{Meanings, AContext, Kept}
+use Rattle.trees.specs.Things.{Meanings, AContext}
 use Rattle.trees.proofs.Meanings.{kept-same}
 use Rattle.translation.specs.Terms.{lifted}
 use Rattle.translation.specs.Scopes.{Scope, Variable, Interval, context_of}
-use Rattle.translation.specs.Translated.{Translated, done, ◌>>=◌, with}
+use Rattle.translation.specs.Translated.{done, ◌>>=◌, with}
 use Rattle.translation.specs.Forms.{Means, under, under_names}
 use Rattle.codes.specs.declared.code.Binder.{Binder}
 use Rattle.codes.specs.Codes.{meaning, binder, body_of}
 use Rattle.form_rows.specs.Meant.{Is, Are}
 use Rattle.form_rows.specs.Systems.{path_lambdas}
-use Rattle.form_rows.proofs.RowLaws.{kept_then, is_kept, are_kept, are_none, are_more, are_parts, are_length}
+use Rattle.form_rows.proofs.RowLaws.{kept_then, are_kept, are_none, are_more, are_parts, are_length}
 use Rattle.judgement_rows.specs.declared.places.Place.{Place}
 use Rattle.judgement_rows.specs.declared.places.Under.{Under}
 use Rattle.judgement_rows.specs.declared.bodies.Body.{Body}
 use Rattle.judgement_rows.specs.Bodies.{newest}
-use Rattle.judgement_rows.specs.Places.{BoundIn, AllNamedIn, copies, with_names, with_variables}
-use Rattle.judgement_rows.specs.Steps.{State, Fits, FitsSome, Stands, StandsFor, Moves, Spells, Row, depth_of}
+use Rattle.judgement_rows.specs.Places.{BoundIn, AllNamedIn, copies}
+use Rattle.judgement_rows.specs.Steps.{State, Fits, FitsSome, StandsFor, Moves, Spells, Row, depth_of}
 use Rattle.judgement_rows.specs.Words.{IsUnder}
 use Rattle.judgement_rows.specs.Under.{intervals, variables, entered, folded}
 use Rattle.judgement_rows.proofs.Moving.{moves_done, moves_then, stands_deeper, fits_kept, Makes}
-use Rattle.judgement_rows.proofs.FormSteps.{spells_same, spells_map, moves_later}
+use Rattle.judgement_rows.proofs.FormSteps.{moves_later}
 use Rattle.judgement_rows.proofs.UnderLaws.{under_is, entered_push, names_are, context_names, context_variables}
 
 -- scopes further in

@@ -1,20 +1,16 @@
 -- Definitions from the start.
-use Rattle.std.proofs.Common.{◌≡◌, ◌+◌, ◌-◌, ◌≤◌, ◌==◌, ℕ, List, [], ◌∷◌, ◌++◌, map, Option, Some, None, refl, sym, ap, ◌∙◌, subst, arith}
+use Rattle.std.proofs.Common.{◌≡◌, ◌-◌, ℕ, List, [], ◌++◌, map, Some, None, refl, sym, ap, ◌∙◌, subst}
 use Rattle.trees.specs.Trees.{Tree, apply, shift_by}
 use Rattle.trees.specs.Judgements.{Nil}
-use Rattle.trees.specs.Things.{Meanings, AContext, Kept}
+use Rattle.trees.specs.Things.{Meanings, AContext}
 use Rattle.trees.specs.Claimed.{claimed}
-use Rattle.trees.specs.declared.claim.Claim.{Claim}
-use Rattle.translation.specs.Scopes.{Scope}
 use Rattle.translation.specs.Terms.{universe}
 use Rattle.translation.specs.Translated.{judgements_of}
-use Rattle.translation.specs.Forms.{Means}
 use Rattle.codes.specs.declared.code.CodeDef.{CodeDef}
-use Rattle.codes.specs.Codes.{body_of, definitions}
+use Rattle.codes.specs.Codes.{definitions}
 use Rattle.form_rows.specs.Meant.{Is}
 use Rattle.rows.specs.Views.{IsTree}
-use Rattle.form_rows.proofs.RowLaws.{is_kept, tree_of_is}
-use Rattle.judgement_rows.specs.declared.places.Place.{Place}
+use Rattle.form_rows.proofs.RowLaws.{tree_of_is}
 use Rattle.judgement_rows.specs.declared.bodies.Body.{Body}
 use Rattle.judgement_rows.specs.Bodies.{newest}
 use Rattle.judgement_rows.specs.Steps.{State, Fits, Stands, StandsFor}

@@ -1,5 +1,5 @@
 -- What spelling a code does, said of the scope of the code.
-use Rattle.std.specs.Prelude.{◌≡◌, ◌-◌, ◌≤◌, ℕ, zero, suc, List, [], ◌∷◌, ◌++◌, map, length, take}
+use Rattle.std.specs.Prelude.{◌≡◌, ◌-◌, ◌≤◌, ℕ, zero, suc, List, [], ◌∷◌, ◌++◌, map}
 use Rattle.std.specs.Prelude.{Option, Some, None}
 use Rattle.trees.specs.Trees.{Tree, apply, shift_by}
 use Rattle.trees.specs.Things.{Meanings, AContext, Kept}
@@ -61,11 +61,13 @@ pub record Claims (old new : State) (ds : List (Stated ℕ)) : Type 0 where
   pub say : map (claimed new.means) more ≡ map Some (judgements_of ds)
 
 -- What was made stands in the relation R to what the code means.
-pub record Moves (old new : State) {A : Type 0} (R : State → A → Type 0) (m : Translated ℕ A) : Type 0 where
+pub record Moves (old new : State) {A : Type 0} (R : State → A → Type 0)
+    (m : Translated ℕ A) : Type 0 where
   pub value : R new m.value
   pub states : Claims old new m.stated
 
-pub record Spells (old new : State) (p : Place) {A : Type 0} (R : State → A → Type 0) (m : Means ℕ A) : Type 0 where
+pub record Spells (old new : State) (p : Place) {A : Type 0} (R : State → A → Type 0)
+    (m : Means ℕ A) : Type 0 where
   pub kept : Kept old.means new.means
   pub bodies : new.bodies ≡ old.bodies
   pub moves : (H : Scope ℕ) → Fits old p H → Moves old new R (m H)

@@ -3,7 +3,7 @@ use Rattle.std.specs.Prelude.{ℕ, zero, suc, List, [], ◌∷◌, ◌++◌}
 use Rattle.trees.specs.Trees.{Tree}
 use Rattle.translation.specs.Terms.{lifted}
 use Rattle.translation.specs.Scopes.{Scope, Variable, Interval}
-use Rattle.translation.specs.Translated.{Translated, done, ◌>>=◌}
+use Rattle.translation.specs.Translated.{done, ◌>>=◌}
 use Rattle.translation.specs.Forms.{Means}
 use Rattle.codes.specs.declared.code.Binder.{Binder}
 use Rattle.codes.specs.Codes.{meaning}

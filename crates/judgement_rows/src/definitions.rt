@@ -90,8 +90,8 @@ impl Spelling {
     }
 }
 
-/// The claims of the judgements of definitions, in order: for each its type and then its body, those
-/// of local ones before those of what holds them.
+/// The claims of the judgements of definitions, in order: for each its type and then its body,
+/// those of local ones before those of what holds them.
 pub fn claims_of<M: Maker>(
     alloc: Global,
     maker: &mut M,

@@ -91,7 +91,8 @@ impl Place {
     ) -> Result<Place, AllocError>
         requires { IsContext (M.means maker.old self.context) }
         ensures kept { Kept (M.means maker.old) (M.means maker.new) }
-        ensures named { IfOk result (AllNamedIn (M.means maker.old) (M.means maker.new) self names) }
+        ensures named { IfOk result
+            (AllNamedIn (M.means maker.old) (M.means maker.new) self names) }
     {
         let mut place = self;
         for _name in 0..names {

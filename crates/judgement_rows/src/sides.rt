@@ -67,7 +67,8 @@ impl Spelling {
         requires { FitsSome (state (M.means maker.old) self.old) place }
         ensures kept { Kept (M.means maker.old) (M.means maker.new) }
         ensures spells { IfOk result (λ r. Spells (state (M.means maker.old) self.old)
-            (state (M.means maker.new) self.new) place (IsLineSystem r) (line_side_trees sides.now)) }
+            (state (M.means maker.new) self.new) place (IsLineSystem r)
+            (line_side_trees sides.now)) }
     {
         let mut faces = Vec::new(self.alloc);
         let mut values = Vec::new(self.alloc);
@@ -95,7 +96,8 @@ impl Spelling {
         requires { FitsSome (state (M.means maker.old) self.old) place }
         ensures kept { Kept (M.means maker.old) (M.means maker.new) }
         ensures spells { IfOk result (λ r. Spells (state (M.means maker.old) self.old)
-            (state (M.means maker.new) self.new) place (IsPairSystem r) (pair_side_trees sides.now)) }
+            (state (M.means maker.new) self.new) place (IsPairSystem r)
+            (pair_side_trees sides.now)) }
     {
         let mut faces = Vec::new(self.alloc);
         let mut types = Vec::new(self.alloc);

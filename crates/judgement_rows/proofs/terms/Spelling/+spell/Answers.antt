@@ -11,11 +11,11 @@ use Rattle.codes.specs.declared.code.Element as elements
 use Rattle.codes.specs.declared.code.Binder as binders
 use Rattle.judgement_rows.specs.Words.{applied_tree, code_trees, line_side_trees, pair_side_trees, side_trees, under_trees}
 use Rattle.judgement_rows.proofs.Answered.{body_answer, fits_after, made_answer, one_more, spells_by, var_answer}
-use Rattle.judgement_rows.proofs.Moving.{given, some_after, some_kept, spells_then}
-use Rattle.judgement_rows.proofs.FormSteps.{place_context, some_face, some_name, some_variable, spells_in_name, spells_in_variable, spells_later, spells_leaf, spells_map, spells_same, spelt_tree}
+use Rattle.judgement_rows.proofs.Moving.{given, some_after, spells_then}
+use Rattle.judgement_rows.proofs.FormSteps.{place_context, some_face, some_name, some_variable, spells_in_name, spells_in_variable, spells_later, spells_map, spells_same, spelt_tree}
 use Rattle.judgement_rows.proofs.UnderSteps.{under_all_names}
 use Rattle.judgement_rows.proofs.Blocks.{after_block}
-use Rattle.judgement_rows.proofs.Arms.{more_rows, with_rows, one_fits_here, one_made, three_fit_here, three_made, four_fit_here, four_made, comp_fits, comp_made, fill_made, glue_type_fits, glue_type_made, unglue_fits, unglue_made, glue_fits, glue_made, transport_fits, transport_made}
+use Rattle.judgement_rows.proofs.Arms.{more_rows, one_fits_here, one_made, three_fit_here, three_made, four_fit_here, four_made, comp_fits, comp_made, fill_made, glue_type_fits, glue_type_made, unglue_fits, unglue_made, glue_fits, glue_made, transport_fits, transport_made}
 use Rattle.judgement_rows.proofs.CodeForms.{bound_is, defined_is, universe_is, nat_is, zero_is, let_is, suc_is, natrec_is, pi_is, sigma_is, lambda_is, path_lambda_is, apply_is, project_is, tuple_is, path_type_is, comp_is, fill_is, transport_is, glue_type_is, glue_term_is, unglue_is}
 use Rattle.judgement_rows.proofs.BindingSteps.{cut_to, over_made, some_defined, some_names, some_within, types_within, under_next, under_start}
 use Rattle.judgement_rows.proofs.AppliedSteps.{applied_line_is, applied_more, applied_motive_is, applied_none, argument_applied, argument_is, at_is, codes_next, codes_start, formula_applied, rows_given, under_line_is, under_motive_is}
