@@ -23,13 +23,16 @@ use Rattle.productions.proofs.Exact.{module_exact, exp_exact}
 
 -- from the machine to the grammar
 pub outcome_read : {IsText : List Piece → Tree → Past → Type 0} {start : Option State} → IsExact IsText start → (ts : List Piece) (m : Tree)
-    → Reaches start ts None m → IsRead IsText ts m
-outcome_read laws ts m r = record {
-  past = r.state.past;
-  is = laws.reads ts r.state m r.ran r.ended;
-  shallow = r.at;
-  only = λ n q is. (laws.only ts r.state m n q r.ran r.ended is).0;
-}
+    → (first_refused ts ≡ None) × Reaches start ts None m → IsRead IsText ts m
+outcome_read laws ts m o =
+    let r = o.1 in
+    record {
+      past = r.state.past;
+      is = laws.reads ts r.state m r.ran r.ended;
+      allowed = o.0;
+      shallow = r.at;
+      only = λ n q is. (laws.only ts r.state m n q r.ran r.ended is).0;
+    }
 
 too_deep : {IsText : List Piece → Tree → Past → Type 0} {start : Option State} → IsExact IsText start → (ts : List Piece) (p : ℕ) (m : Tree)
     → Reaches start ts (Some p) m → IsTooDeep IsText ts p
@@ -57,7 +60,7 @@ outcome_fault laws size ts Memory o = tt
 -- the end of a run
 pub end_outcome : (start : Option State) (size : ℕ) (ts : List Piece) (s : State) (r : Result TextOf ReadFault)
     → first_refused ts ≡ None → run start ts ≡ Some s → Ends s size r → Outcome start size ts r
-end_outcome start size ts s (Ok x) clean ran e = record { state = s; ran = ran; at = e.0; ended = e.1 }
+end_outcome start size ts s (Ok x) clean ran e = (clean, record { state = s; ran = ran; at = e.0; ended = e.1 })
 end_outcome start size ts s (Err (RefusedForm p)) clean ran e = absurd e
 end_outcome start size ts s (Err (Unexpected p)) clean ran e = (clean, rw e.0 (at_end s ran e.1))
 end_outcome start size ts s (Err (TooDeep p)) clean ran e = (clean, (e.1.0, record { state = s; ran = ran; at = e.0; ended = e.1.1 }))

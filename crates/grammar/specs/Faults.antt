@@ -25,11 +25,13 @@ first_refused [] = None
 first_refused (piece Refused s e ∷ ts) = Some s
 first_refused (piece w s e ∷ ts) = first_refused ts
 
--- the tokens are read as this tree and as no other, and no place of it is too deep
+-- the tokens are read as this tree and as no other, none of them is refused, and no place of the tree
+-- is too deep
 pub record IsRead (IsText : List Piece → Tree → Past → Type 0) (ts : List Piece) (m : Tree) :
     Type 0 where
   pub past : Past
   pub is : IsText ts m past
+  pub allowed : first_refused ts ≡ None
   pub shallow : past.deep ≡ None
   pub only : (n : Tree) (q : Past) → IsText ts n q → n ≡ m
 
@@ -91,7 +93,7 @@ pub data StopsAt : Option State → ℕ → List Piece → ℕ → Type 0 where
       → run start ts ≡ Some x → finish x.top x.past x.stack ≡ None → StopsAt start size ts size
 
 abbrev pub Outcome : Option State → ℕ → List Piece → Result Text ReadFault → Type 0
-Outcome start size ts (Ok x) = Reaches start ts None (text_of x)
+Outcome start size ts (Ok x) = (first_refused ts ≡ None) × Reaches start ts None (text_of x)
 Outcome start size ts (Err (RefusedForm p)) = first_refused ts ≡ Some p
 Outcome start size ts (Err (Unexpected p)) = (first_refused ts ≡ None) × StopsAt start size ts p
 Outcome start size ts (Err (TooDeep p)) =
