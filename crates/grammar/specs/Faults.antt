@@ -25,8 +25,8 @@ first_refused [] = None
 first_refused (piece Refused s e ∷ ts) = Some s
 first_refused (piece w s e ∷ ts) = first_refused ts
 
--- the tokens are read as this tree and as no other, none of them is refused, and no place of the tree
--- is too deep
+-- the tokens are read as this tree and as no other, none of them is refused, and no place of the
+-- tree is too deep
 pub record IsRead (IsText : List Piece → Tree → Past → Type 0) (ts : List Piece) (m : Tree) :
     Type 0 where
   pub past : Past

@@ -5,11 +5,12 @@ use Rattle.std.specs.declared.alloc.Global.{Global}
 use Rattle.std.specs.List.{Any, Contains}
 use Rattle.std.proofs.lemmas.List.{get_or-reverse, length-reverse, reverse-append, reverse-reverse, length-map}
 use Rattle.edge.specs.Files.{Held}
-use Rattle.loading.specs.declared.text.ModuleText.{ModuleText}
+use Rattle.module_texts.specs.declared.text.ModuleText.{ModuleText}
 use Rattle.loading.specs.declared.text.LoadFault.{LoadFault}
 use Rattle.loading.specs.declared.text.LoadFault.TheVariants as fault
 use Rattle.loading.specs.declared.begun.Begun.{Begun}
-use Rattle.loading.specs.Texts.{IsText, FailsAt, name_of, imports_of, name_at}
+use Rattle.loading.specs.Texts.{IsText, FailsAt}
+use Rattle.module_texts.specs.Texts.{name_of, imports_of, name_at}
 use Rattle.loading.specs.Loading.{Loads, Refuses, none, known, anew, here, within, after_known, after_new, IsLoaded, IsAnother, IsNew, RefusesOne, most_modules}
 use Rattle.loading.specs.Frames.{begun_name, names_of, left_of, Passes}
 

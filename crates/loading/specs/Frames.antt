@@ -3,7 +3,7 @@ use Rattle.std.specs.Prelude.{◌≡◌, ◌+◌, ℕ, List, [], ◌∷◌, map,
 use Rattle.std.specs.Prelude.{String, string_bytes}
 use Rattle.std.specs.declared.alloc.Global.{Global}
 use Rattle.loading.specs.declared.begun.Begun.{Begun}
-use Rattle.loading.specs.Texts.{name_of, imports_of}
+use Rattle.module_texts.specs.Texts.{name_of, imports_of}
 
 abbrev pub begun_name : Begun → List ℕ
 begun_name b = name_of b.text

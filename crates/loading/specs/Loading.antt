@@ -3,10 +3,11 @@ use Rattle.std.specs.Prelude.{◌≡◌, ◌<◌, ◌≤◌, ◌+◌, ℕ, List,
 use Rattle.std.specs.Prelude.{Option, string_bytes}
 use Rattle.std.specs.List.{Any, Contains}
 use Rattle.edge.specs.Files.{Held}
-use Rattle.loading.specs.declared.text.ModuleText.{ModuleText}
+use Rattle.module_texts.specs.declared.text.ModuleText.{ModuleText}
 use Rattle.loading.specs.declared.text.LoadFault.{LoadFault}
 use Rattle.loading.specs.declared.text.LoadFault.TheVariants as fault
-use Rattle.loading.specs.Texts.{IsText, FailsAt, name_of, imports_of, path_of}
+use Rattle.loading.specs.Texts.{IsText, FailsAt}
+use Rattle.module_texts.specs.Texts.{name_of, imports_of, path_of}
 
 -- the most modules that are loaded for one command
 abbrev pub most_modules : ℕ

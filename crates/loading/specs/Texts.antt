@@ -1,11 +1,9 @@
 -- What the file of one module holds, and how that is read.
-use Rattle.std.specs.Prelude.{◌≡◌, ◌≢◌, ℕ, List, ◌++◌, map, length, slice_range, codes}
+use Rattle.std.specs.Prelude.{◌≡◌, ◌≢◌, ℕ, List, length}
 use Rattle.std.specs.Prelude.{None, Some, Option, Result, Ok, Err, string_bytes}
-use Rattle.std.specs.Str.Lossy.{utf8_lossy}
 use Rattle.edge.specs.Counts.{FileCounts, counted_fetch}
 use Rattle.edge.specs.Files.{Held, HoldsAt}
 use Rattle.edge.specs.declared.files.Fetched.TheVariants as fetched
-use Rattle.layout_lexer.specs.declared.token.Span.{Span}
 use Rattle.layout_lexer.specs.declared.token.Token.{Token}
 use Rattle.layout_lexer.specs.declared.fault.LexFault.{LexFault}
 use Rattle.layout_lexer.specs.declared.fault.LexFault.TheVariants as lex_fault
@@ -17,23 +15,10 @@ use Rattle.productions.specs.Grammar.{IsModule}
 use Rattle.grammar.specs.declared.reading.ReadFault.{ReadFault}
 use Rattle.grammar.specs.declared.reading.ReadFault.TheVariants as read_fault
 use Rattle.grammar.specs.Faults.{IsRead, IsFault}
-use Rattle.loading.specs.declared.text.ModuleText.{ModuleText}
+use Rattle.module_texts.specs.declared.text.ModuleText.{ModuleText}
+use Rattle.module_texts.specs.Texts.{name_of, path_of}
 use Rattle.loading.specs.declared.text.LoadFault.{LoadFault}
 use Rattle.loading.specs.declared.text.LoadFault.TheVariants as fault
-
--- the path of a module's file
-abbrev pub path_of : List ℕ → List ℕ
-path_of name = name ++ codes ".ctt"
-
--- the name that a piece of a text spells; that of a token is UTF-8, so that nothing is replaced
-abbrev pub name_at : List ℕ → Span → List ℕ
-name_at bytes s = utf8_lossy (slice_range bytes s.start s.end)
-
-abbrev pub name_of : ModuleText → List ℕ
-name_of x = string_bytes x.name
-
-abbrev pub imports_of : ModuleText → List (List ℕ)
-imports_of x = map (name_at x.bytes.items) x.module.imports
 
 -- the bytes have these tokens, which are read so
 pub record ReadsAs (bytes : List ℕ) (m : Tree) : Type 0 where

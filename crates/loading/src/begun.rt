@@ -2,7 +2,7 @@
 
 ghost use Rattle.std.specs.Prelude.{◌≡◌, ◌<◌, ◌^◌, length};
 
-use crate::text::ModuleText;
+use module_texts::ModuleText;
 
 /// A module whose imports are being loaded, up to the one at `next`.
 #[derive(Drop)]

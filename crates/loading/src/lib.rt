@@ -8,12 +8,15 @@
 #![tactic(auto)]
 
 mod begun;
+mod laws;
 mod modules;
 mod named;
 mod text;
 
+pub use laws::laws_of_loading;
+pub use module_texts::ModuleText;
 pub use modules::load;
-pub use text::{LoadFault, ModuleText};
+pub use text::LoadFault;
 
 #[cfg(test)]
 mod tests;

@@ -9,8 +9,9 @@ ghost use Rattle.loading.specs.Frames.{begun_name, names_of, Passes};
 
 use crate::begun::Begun;
 use crate::named::is_among;
-use crate::text::{LoadFault, ModuleText, name_at, path_of, read_text};
+use crate::text::{LoadFault, read_text};
 use edge::Files;
+use module_texts::{ModuleText, name_at, path_of};
 use std::alloc::{AllocError, Global};
 
 /// The most modules that are loaded for one command.

@@ -4,7 +4,7 @@ ghost use Rattle.std.specs.Prelude.{◌≡◌, ◌↔◌, ℕ, List, IsTrue, str
 ghost use Rattle.std.specs.List.{Any};
 
 use crate::begun::Begun;
-use crate::text::ModuleText;
+use module_texts::ModuleText;
 
 /// What is the module of a name.
 pub trait Named {

@@ -1,6 +1,6 @@
 //! Modules and what they import.
 
-use crate::{LoadFault, ModuleText, load};
+use crate::{LoadFault, ModuleText, laws_of_loading, load};
 use edge::MemFiles;
 use std::alloc::{AllocError, Global};
 use std::test::Fail;
@@ -133,4 +133,9 @@ fn a_fetch_that_fails_ends_it(rt: HostRuntime) -> Result<(), Fail> {
     files.put("b.ctt", b"module b where")?;
     assert_eq!(rt; shown(rt.alloc(), &mut files, "a")?.as_str(), "Unreadable");
     Ok(())
+}
+
+#[test]
+fn the_law_is_no_code(_rt: HostRuntime) {
+    laws_of_loading();
 }

@@ -1,5 +1,5 @@
 use Rattle.std.proofs.Common.{◌≡◌, refl, ap, sym, subst, ◌∙◌, ◌+◌, ◌∷◌, drop, map}
-use Rattle.loading.specs.Texts.{name_at}
+use Rattle.module_texts.specs.Texts.{name_at}
 use Rattle.loading.proofs.FrameLaws.{next-left}
 use Rattle.loading.proofs.begun.Begun.next_import.Goals as goal
 
