@@ -17,6 +17,7 @@ mod named;
 mod node;
 mod number;
 mod row_judge;
+mod row_maker;
 mod thing;
 
 pub use judged_rows::Rows;

@@ -1,0 +1,56 @@
+//! Rows are made over those of a judged file as over any others.
+
+ghost use Rattle.replay.specs.Shown.{rows_mean};
+
+use crate::judged_rows::Rows;
+use rows::{CtxId, CtxRow, Maker, Row, SubId, SubRow, TermId, TermRow};
+use std::alloc::AllocError;
+use trees::Op;
+
+impl rows::Rows for Rows {
+    ghost means = { rows_mean };
+}
+
+impl Maker for Rows {
+    ghost spare = { λ r. 0 };
+
+    fn var(&mut self, index: u32) -> Result<u64, AllocError> {
+        Ok(self.add(Row::Term(TermRow::Var(index)))?)
+    }
+
+    fn make(&mut self, op: Op, kids: &[u64]) -> Result<u64, AllocError> {
+        Ok(self.add(Row::Term(TermRow::Make(op, kids)))?)
+    }
+
+    fn instance(&mut self, term: u64, sub: u64) -> Result<u64, AllocError> {
+        Ok(self.add(Row::Term(TermRow::Instance(TermId(term), SubId(sub))))?)
+    }
+
+    fn shift(&mut self, by: u64) -> Result<u64, AllocError> {
+        Ok(self.add(Row::Subst(SubRow::Shift(by)))?)
+    }
+
+    fn push(&mut self, sub: u64, term: u64) -> Result<u64, AllocError> {
+        Ok(self.add(Row::Subst(SubRow::Push(SubId(sub), TermId(term))))?)
+    }
+
+    fn then(&mut self, first: u64, second: u64) -> Result<u64, AllocError> {
+        Ok(self.add(Row::Subst(SubRow::Then(SubId(first), SubId(second))))?)
+    }
+
+    fn ctx_nil(&mut self) -> Result<u64, AllocError> {
+        Ok(self.add(Row::Context(CtxRow::Nil))?)
+    }
+
+    fn ctx_var(&mut self, ctx: u64, ty: u64) -> Result<u64, AllocError> {
+        Ok(self.add(Row::Context(CtxRow::Var(CtxId(ctx), TermId(ty))))?)
+    }
+
+    fn ctx_name(&mut self, ctx: u64) -> Result<u64, AllocError> {
+        Ok(self.add(Row::Context(CtxRow::Name(CtxId(ctx))))?)
+    }
+
+    fn ctx_face(&mut self, ctx: u64, face: u64) -> Result<u64, AllocError> {
+        Ok(self.add(Row::Context(CtxRow::Face(CtxId(ctx), TermId(face))))?)
+    }
+}
