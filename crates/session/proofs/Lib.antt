@@ -1,4 +1,10 @@
 pub mod WriteLemmas
-pub mod WordLemmas
+pub mod GivenLaws
+pub mod NameLaws
+pub mod RootLaws
+pub mod ModuleLaws
 pub mod ExclusionLemmas
+pub mod AnswerLaws
+pub mod LoadedLaws
+pub mod ReplayLaws
 pub mod RunLemmas

@@ -1,9 +1,11 @@
 -- What a command may answer, and what is then printed.
-use Rattle.std.specs.Prelude.{◌≡◌, ◌≢◌, ◌⊎◌, ℕ, List, ◌++◌, None, Some}
+use Rattle.std.specs.Prelude.{◌≡◌, ◌≢◌, ◌⊎◌, ℕ, List, ◌++◌, length, None, Some}
 use Rattle.std.specs.Prelude.{codes, decimal, string_bytes, Option}
 use Rattle.edge.specs.Counts.{Rose}
 use Rattle.edge.specs.Files.{Held, HoldsAt}
 use Rattle.edge.specs.Seen.{SeenFiles, SeenSource, SeenSink}
+use Rattle.trees.specs.Judgements.{Judgement}
+use Rattle.derivation.specs.Right.{AllRight, Derives, FirstBad}
 use Rattle.replay.specs.declared.judging.Verdict.{Verdict}
 use Rattle.replay.specs.declared.judging.Verdict.TheVariants.{Yes, No}
 use Rattle.replay.specs.Verdicts.{VerdictIs}
@@ -12,6 +14,8 @@ use Rattle.session.specs.declared.outcome.Status.TheVariants as status
 use Rattle.session.specs.declared.outcome.Outcome.{Outcome}
 use Rattle.session.specs.declared.outcome.Outcome.TheVariants as outcome
 use Rattle.session.specs.Words.{Command, Replay}
+use Rattle.session.specs.Refusals.{refusal_text}
+use Rattle.session.specs.Modules.{DifferAt, NotLoaded, NotResolved, Spells}
 use Rattle.session.specs.Writes.{WrittenWhole, CutOff}
 
 -- an outcome in plain words
@@ -19,6 +23,8 @@ abbrev pub plain_text : Outcome → List ℕ
 plain_text (outcome.Judged (Yes rows roots)) =
     codes "yes: " ++ (decimal rows ++ (codes " rows, " ++ (decimal roots ++ codes " roots\n")))
 plain_text (outcome.Judged (No row)) = codes "no: row " ++ (decimal row ++ codes "\n")
+plain_text (outcome.RootDiffers root) = codes "no: root " ++ (decimal root ++ codes "\n")
+plain_text (outcome.Refused refusal) = refusal_text refusal
 plain_text (outcome.MissingFile path) =
     codes "no: MissingFile in " ++ (string_bytes path ++ codes "\n")
 plain_text outcome.ReadFault = codes "fault: ReadFault\n"
@@ -27,13 +33,15 @@ plain_text outcome.Usage =
 
 -- the text that a command prints
 abbrev pub text : Option Command → Outcome → List ℕ
-text (Some (Replay path)) result = plain_text result
+text (Some (Replay path of)) result = plain_text result
 text None result = plain_text result
 
 -- its status
 abbrev pub status_of : Outcome → Status
 status_of (outcome.Judged (Yes rows roots)) = status.Yes
 status_of (outcome.Judged (No row)) = status.No
+status_of (outcome.RootDiffers root) = status.No
+status_of (outcome.Refused refusal) = status.No
 status_of (outcome.MissingFile path) = status.No
 status_of outcome.ReadFault = status.Fault
 status_of outcome.Usage = status.Usage
@@ -43,19 +51,43 @@ abbrev pub Printed : List ℕ → Status → SeenSink → SeenSink → Status �
 Printed text whole old new result =
     ((result ≡ whole) × WrittenWhole text old new) ⊎ ((result ≡ status.Fault) × CutOff text old new)
 
--- When a replay of a path may end so. The verdict is that of the bytes that the path holds, where
--- it is told what is held; a path is missing only where the count of misses rose, and then is not
--- held; a read failed only where the count of faults rose.
-abbrev pub MayAnswerReplay : List ℕ → SeenFiles → SeenFiles → Outcome → Type 0
-MayAnswerReplay path old new (outcome.Judged verdict) =
-    (bytes : List ℕ) × HoldsAt old.held path (Some bytes) × VerdictIs bytes verdict
-MayAnswerReplay path old new (outcome.MissingFile missing) =
-    (string_bytes missing ≡ path)
-    × Rose old.counts.misses new.counts.misses
-    × HoldsAt old.held path None
-MayAnswerReplay path old new outcome.ReadFault =
-    Rose old.counts.fetch_faults new.counts.fetch_faults
-MayAnswerReplay path old new outcome.Usage = ⊥
+-- A file was missing, or could not be read, only where the count of that rose.
+abbrev pub IsCounted : SeenFiles → SeenFiles → Outcome → Type 0
+IsCounted old new (outcome.MissingFile path) = Rose old.counts.misses new.counts.misses
+IsCounted old new outcome.ReadFault = Rose old.counts.fetch_faults new.counts.fetch_faults
+IsCounted old new result = Unit {0}
+
+-- What may be said of the bytes of a file, where its roots may be wanted to be these: yes exactly
+-- where all rows are right and the roots are these.
+abbrev pub IsFound : List ℕ → Option (List Judgement) → Outcome → Type 0
+IsFound bytes None (outcome.Judged verdict) = VerdictIs bytes verdict
+IsFound bytes (Some Js) (outcome.Judged (Yes rows roots)) =
+    AllRight bytes × Derives bytes rows Js × (roots ≡ length Js)
+IsFound bytes (Some Js) (outcome.Judged (No row)) = FirstBad bytes row
+IsFound bytes (Some Js) (outcome.RootDiffers k) =
+    AllRight bytes
+    × ((rows : ℕ) × (Ks : List Judgement) × Derives bytes rows Ks × DifferAt Ks Js k)
+IsFound bytes wanted result = ⊥
+
+-- When a replay of a path may end so: what is said is said of the bytes that the path holds, where
+-- it is told what is held; a path that is missing is not held.
+abbrev pub IsReplayed : Option Held → List ℕ → Option (List Judgement) → Outcome → Type 0
+IsReplayed held path wanted (outcome.MissingFile missing) =
+    (string_bytes missing ≡ path) × HoldsAt held path None
+IsReplayed held path wanted outcome.ReadFault = Unit {0}
+IsReplayed held path wanted result =
+    (bytes : List ℕ) × HoldsAt held path (Some bytes) × IsFound bytes wanted result
+
+-- With a module: it is not loaded, or not resolved, or the path is replayed for what it spells.
+pub data MayReplayOf (held : Option Held) (path name : List ℕ) (told : Outcome) : Type 0 where
+  not_loaded : NotLoaded held name told → MayReplayOf held path name told
+  not_resolved : NotResolved held name told → MayReplayOf held path name told
+  replayed : (Js : List Judgement) → Spells held name Js → IsReplayed held path (Some Js) told
+      → MayReplayOf held path name told
+
+abbrev pub MayReplay : Option Held → List ℕ → Option (List ℕ) → Outcome → Type 0
+MayReplay held path None result = IsReplayed held path None result
+MayReplay held path (Some name) result = MayReplayOf held path name result
 
 -- words that are no command have one answer
 abbrev pub MayAnswerNone : Outcome → Type 0
@@ -64,7 +96,8 @@ MayAnswerNone result = ⊥
 
 -- when a command may end so
 abbrev pub MayAnswer : Option Command → SeenFiles → SeenFiles → Outcome → Type 0
-MayAnswer (Some (Replay path)) old new result = MayAnswerReplay path old new result
+MayAnswer (Some (Replay path of)) old new result =
+    MayReplay old.held path of result × IsCounted old new result
 MayAnswer None old new result = MayAnswerNone result
 
 -- each path holds what it did, and no store was tried that failed
@@ -93,17 +126,17 @@ pub record Answered (command : Option Command) (old new : Seen) (result : Status
 
 -- what a command may do to the files: words that are no command leave them alone
 abbrev pub MayStore : {F : Type 0} → (F → SeenFiles) → Option Command → F → F → Type 0
-MayStore see (Some (Replay path)) old new = StoresNothing (see old) (see new)
+MayStore see (Some (Replay path of)) old new = StoresNothing (see old) (see new)
 MayStore see None old new = new ≡ old
 
 -- what a command may read of the input
 abbrev pub MayRead : {I : Type 0} → (I → SeenSource) → Option Command → I → I → Type 0
-MayRead see (Some (Replay path)) old new = new ≡ old
+MayRead see (Some (Replay path of)) old new = new ≡ old
 MayRead see None old new = new ≡ old
 
 -- what a command may have printed before it was out of memory
 abbrev pub MayPrintBefore : {O : Type 0} → (O → SeenSink) → Option Command → O → O → Type 0
-MayPrintBefore see (Some (Replay path)) old new = new ≡ old
+MayPrintBefore see (Some (Replay path of)) old new = new ≡ old
 MayPrintBefore see None old new = new ≡ old
 
 -- A command ran: how files, inputs and outputs are seen, the command, both worlds, and the status.
@@ -124,12 +157,11 @@ OneVerdict =
     (bytes : List ℕ) (one other : Verdict) →
     VerdictIs bytes one → VerdictIs bytes other → one ≡ other
 
--- A law: where it is told what is held, a replay of a path has one text and one status, but for a
--- fault of reading.
+-- A law: where it is told what is held, a replay of a path, and of a module if one is named, has
+-- one text and one status, but for a fault of reading.
 abbrev pub OneAnswer : Type 0
 OneAnswer =
-    (path : List ℕ) (held : Held) (old new old' new' : SeenFiles) (one other : Outcome)
-    → old.held ≡ Some held → old'.held ≡ Some held
+    (path : List ℕ) (of : Option (List ℕ)) (held : Held) (one other : Outcome)
     → one ≢ outcome.ReadFault → other ≢ outcome.ReadFault
-    → MayAnswerReplay path old new one → MayAnswerReplay path old' new' other
+    → MayReplay (Some held) path of one → MayReplay (Some held) path of other
     → (plain_text one ≡ plain_text other) × (status_of one ≡ status_of other)

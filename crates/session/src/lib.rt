@@ -7,7 +7,9 @@
 #![tactic(auto)]
 
 mod outcome;
+mod refusal;
 mod replay_command;
+mod roots;
 mod top;
 mod words;
 

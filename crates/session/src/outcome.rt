@@ -2,6 +2,7 @@
 ghost use Rattle.std.specs.Prelude.{◌≡◌, IfOk, string_bytes};
 ghost use Rattle.session.specs.Answers.{plain_text, status_of, OneVerdict, OneAnswer};
 
+use crate::refusal::Refusal;
 use replay::Verdict;
 use std::alloc::{AllocError, Global};
 
@@ -27,6 +28,10 @@ pub enum Status {
 pub(crate) enum Outcome {
     /// What was found of the rows of a derivation file.
     Judged(Verdict),
+    /// All rows are right, and this root is the first that is not the module's.
+    RootDiffers(u64),
+    /// A module is refused.
+    Refused(Refusal),
     /// The file at the path is not there.
     MissingFile(String),
     /// A file could not be read.
@@ -46,6 +51,8 @@ impl Outcome {
         match self {
             Outcome::Judged(Verdict::Yes { rows: _, roots: _ }) => Status::Yes,
             Outcome::Judged(Verdict::No { row: _ }) => Status::No,
+            Outcome::RootDiffers(_) => Status::No,
+            Outcome::Refused(_) => Status::No,
             Outcome::MissingFile(_) => Status::No,
             Outcome::ReadFault => Status::Fault,
             Outcome::Usage => Status::Usage,
@@ -61,6 +68,8 @@ impl Outcome {
                 format!(in alloc; "yes: {rows} rows, {roots} roots\n")
             }
             Outcome::Judged(Verdict::No { row }) => format!(in alloc; "no: row {row}\n"),
+            Outcome::RootDiffers(root) => format!(in alloc; "no: root {root}\n"),
+            Outcome::Refused(refusal) => refusal.text(alloc),
             Outcome::MissingFile(path) => format!(in alloc; "no: MissingFile in {path}\n"),
             Outcome::ReadFault => String::from_str(alloc, "fault: ReadFault\n"),
             Outcome::Usage => String::from_str(alloc, USAGE),
@@ -69,7 +78,8 @@ impl Outcome {
 }
 
 /// A law on the answers, and no code: of one file there is one verdict, and where it is told what
-/// is held, a replay of a path has one answer, but for a fault of reading and out of memory.
+/// is held, a replay of a path, and of a module if one is named, has one answer, but for a fault of
+/// reading and out of memory.
 pub fn answers_exclude_each_other()
     ensures verdict { OneVerdict }
     ensures answer { OneAnswer }

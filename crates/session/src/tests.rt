@@ -43,10 +43,11 @@ fn words_of(alloc: Global, text: &str) -> Result<Vec<String>, AllocError> {
     Ok(words)
 }
 
-/// Where the words are run: `two.drv` has a text, and some fetches and writes fail.
+/// Where the words are run: `two.drv` and `M.ctt` have texts, and some fetches and writes fail.
 #[derive(Clone, Copy)]
 struct Place<'a> {
     text: &'a str,
+    module: &'a str,
     fetches: &'a [u64],
     writes: &'a [u64],
     room: usize,
@@ -56,6 +57,7 @@ struct Place<'a> {
 fn sound(text: &str) -> Place<'_> {
     Place {
         text,
+        module: "module M where",
         fetches: &[],
         writes: &[],
         room: 1000,
@@ -72,6 +74,7 @@ fn assert_prints(
 ) -> Result<(), AllocError> {
     let mut files = MemFiles::new(alloc, place.fetches)?;
     files.put("two.drv", place.text.as_bytes())?;
+    files.put("M.ctt", place.module.as_bytes())?;
     let mut input = MemSource::new(alloc, &[], &[])?;
     let mut out = MemSink::new(alloc, place.room, place.writes)?;
     let ends = run(alloc, words, &mut files, &mut input, &mut out);
@@ -147,6 +150,7 @@ fn files_and_output_fail(rt: HostRuntime) -> Result<(), AllocError> {
     for (text, fetches, writes, room, prints) in cases {
         let place = Place {
             text: "",
+            module: "",
             fetches,
             writes,
             room,
@@ -176,6 +180,13 @@ fn other_words_are_no_command(rt: HostRuntime) -> Result<(), AllocError> {
         "replay ",
         "replay two.drv b",
         "replay --of",
+        "replay --of M",
+        "replay two.drv --of",
+        "replay two.drv --of=",
+        "replay two.drv --of data",
+        "replay two.drv --of M.ctt",
+        "replay two.drv --of M --of M",
+        "replay two.drv -- --of M",
         "replay two.drv -x",
         "-- replay two.drv",
         "check two",
@@ -198,6 +209,60 @@ fn two_dashes_make_every_later_word_positional(rt: HostRuntime) -> Result<(), Al
     ] {
         let words = words_of(rt.alloc(), text)?;
         assert_prints(&rt, rt.alloc(), &words, &sound(""), (printed, Status::No))?;
+    }
+    Ok(())
+}
+
+/// Module texts, and what a replay of the thirteen rows for them prints.
+const MODULES: [(&str, &str); 9] = [
+    ("two : nat = suc (suc zero)", "yes: 13 rows, 2 roots\n"),
+    (
+        "two : nat = let one : nat = suc zero in suc one",
+        "no: root 1\n",
+    ),
+    ("two : nat = suc zero", "no: root 1\n"),
+    ("two : U = nat", "no: root 0\n"),
+    ("", "no: root 0\n"),
+    (
+        "two : nat = suc (suc zero)\nthree : nat = zero",
+        "no: root 2\n",
+    ),
+    ("data bool = tt | ff", "no: RefusedForm at 15 in M.ctt\n"),
+    ("a : nat = a", "no: Unbound at 25 in M.ctt\n"),
+    ("import Z", "no: MissingFile in Z.ctt\n"),
+];
+
+#[test]
+fn roots_are_those_of_the_module(rt: HostRuntime) -> Result<(), AllocError> {
+    let text = lines(rt.alloc(), &TWO)?;
+    let words = words_of(rt.alloc(), "replay two.drv --of M")?;
+    for (defs, printed) in MODULES {
+        let module = format!(in rt.alloc(); "module M where\n{defs}\n")?;
+        let place = Place {
+            module: module.as_str(),
+            ..sound(text.as_str())
+        };
+        let status = if printed.starts_with("yes") {
+            Status::Yes
+        } else {
+            Status::No
+        };
+        assert_prints(&rt, rt.alloc(), &words, &place, (printed, status))?;
+    }
+    Ok(())
+}
+
+#[test]
+fn an_option_stands_anywhere(rt: HostRuntime) -> Result<(), AllocError> {
+    for text in [
+        "replay --of M a.drv",
+        "replay --of=M a.drv",
+        "replay a.drv --of=M",
+        "replay --of M -- a.drv",
+    ] {
+        let words = words_of(rt.alloc(), text)?;
+        let prints = ("no: MissingFile in a.drv\n", Status::No);
+        assert_prints(&rt, rt.alloc(), &words, &sound(""), prints)?;
     }
     Ok(())
 }

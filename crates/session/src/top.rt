@@ -67,8 +67,8 @@ fn outcome_of<F: Files>(
     ensures stored { MayStore (seen_files F.held F.counts) (command (texts words.now))
         files.old files.new }
 {
-    match command_of(words) {
-        Some(Command::Replay(path)) => Ok(replay(alloc, path, files)?),
+    match command_of(alloc, words)? {
+        Some(Command::Replay(path, of)) => Ok(replay(alloc, path, of, files)?),
         None => Ok(Outcome::Usage),
     }
 }

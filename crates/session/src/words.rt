@@ -1,14 +1,34 @@
-// The words of the command line.
-ghost use Rattle.std.specs.Prelude.{◌≡◌, ◌++◌};
-ghost use Rattle.std.specs.Option.{option_map, option_and_then};
-ghost use Rattle.session.specs.Words.{command, command_read, texts, positional};
-ghost use Rattle.session.specs.Words.{is_dashed, only_one};
+//! The words of the command line.
+
+ghost use Rattle.std.specs.Prelude.{◌≡◌, IfOk, false};
+ghost use Rattle.std.specs.Option.{option_and_then, option_map};
+ghost use Rattle.session.specs.Words.{command, command_read, is_dashed, is_module_name, sorted};
+ghost use Rattle.session.specs.Words.{texts, word_of, word_read};
+ghost use Rattle.session.specs.Given.{Notes, given_of, once_each};
+
+use layout_lexer::{Kind, LexFault, tokens};
+use std::alloc::{AllocError, Global};
 
 /// What the words ask for.
 #[derive(Clone, Copy)]
 pub(crate) enum Command<'a> {
-    /// `replay FILE`: to judge the derivation file at the path.
-    Replay(&'a str),
+    /// `replay FILE`, or `replay FILE --of MODULE`: to judge the derivation file at the path, and
+    /// whether its roots are the judgements of the module.
+    Replay(&'a str, Option<&'a str>),
+}
+
+/// What one word is, before any word `--`.
+#[derive(Clone, Copy)]
+enum Word<'a> {
+    /// `--`
+    Dashes,
+    /// `--of`
+    Of,
+    /// `--of=` and its value.
+    OfIs(&'a str),
+    /// Any other word that begins with a dash and is longer.
+    Unknown,
+    Positional,
 }
 
 /// Whether the word begins with a dash, and is longer.
@@ -21,58 +41,121 @@ fn is_dashed(word: &str) -> bool
     }
 }
 
-/// The words before the first `--` and those after it, where none before it is dashed. They are the
-/// positional ones.
-fn positional(words: &[String]) -> Option<(&[String], &[String])>
-    ensures { option_map (λ parts. texts parts.0.now ++ texts parts.1.now) result
-        ≡ positional (texts words.now) }
+/// What the word is, before any word `--`.
+fn word_of(word: &str) -> Word<'_>
+    ensures { word_read result ≡ word_of word.now }
 {
-    for (i, word) in words.iter().enumerate() {
-        if word.as_str() == "--" {
-            let (before, rest) = words.split_at(i);
-            return Some((before, rest.split_at(1).1));
-        }
-        if is_dashed(word) {
+    if word == "--" {
+        return Word::Dashes;
+    }
+    if word == "--of" {
+        return Word::Of;
+    }
+    match word.strip_prefix("--of=") {
+        Some(value) => Word::OfIs(value),
+        None if is_dashed(word) => Word::Unknown,
+        None => Word::Positional,
+    }
+}
+
+/// The positional word and the value of `--of`, where they are given.
+#[derive(Clone, Copy)]
+struct Given<'a> {
+    file: Option<&'a str>,
+    of: Option<&'a str>,
+}
+
+/// Notes a word where there is none yet. The answer says whether there was none.
+fn note<'a>(slot: &mut Option<&'a str>, word: &'a str) -> bool
+    ensures { Notes word.now slot.old slot.new result }
+{
+    if slot.is_some() {
+        return false;
+    }
+    *slot = Some(word);
+    true
+}
+
+/// The words after a command's name, where there is one positional word at most and one `--of`.
+fn sort_words(words: &[String]) -> Option<Given<'_>>
+    ensures { option_map given_of result
+        ≡ option_and_then once_each (sorted false (texts words.now)) }
+{
+    let mut given = Given {
+        file: None,
+        of: None,
+    };
+    let mut rest = words;
+    while let [word, after @ ..] = rest {
+        rest = after;
+        let fits = match word_of(word.as_str()) {
+            Word::Dashes => break,
+            Word::Of => match rest {
+                [value, after @ ..] => {
+                    rest = after;
+                    note(&mut given.of, value.as_str())
+                }
+                [] => false,
+            },
+            Word::OfIs(value) => note(&mut given.of, value),
+            Word::Unknown => false,
+            Word::Positional => note(&mut given.file, word.as_str()),
+        };
+        if !fits {
             return None;
         }
     }
-    Some((words, &[]))
+    for word in rest {
+        if !note(&mut given.file, word.as_str()) {
+            return None;
+        }
+    }
+    Some(given)
 }
 
-/// The one positional word, which is not empty.
-fn only_file(words: &[String]) -> Option<&str>
-    ensures { option_map (λ file. file.now) result
-        ≡ option_and_then only_one (positional (texts words.now)) }
+/// Whether a word is the name of a module: an identifier, and no keyword.
+fn is_module_name(alloc: Global, word: &str) -> Result<bool, AllocError>
+    ensures { IfOk result (λ is. is ≡ is_module_name word.now) }
 {
-    let (before, after) = positional(words)?;
-    let file = match (before, after) {
-        ([file], []) => file,
-        ([], [file]) => file,
-        ([], []) => return None,
-        ([], [_, _, ..]) => return None,
-        ([_], [_, ..]) => return None,
-        ([_, _, ..], _) => return None,
+    let tokens = match tokens(alloc, word.as_bytes()) {
+        Ok(tokens) => tokens,
+        Err(LexFault::Memory) => return Err(AllocError),
+        Err(_) => return Ok(false),
+    };
+    match tokens.as_slice() {
+        [token] => Ok(
+            token.kind == Kind::Identifier && token.start == 0 && token.end as usize == word.len(),
+        ),
+        _ => Ok(false),
+    }
+}
+
+/// The command that the words are, if any. The only error is out of memory.
+pub(crate) fn command_of(alloc: Global, words: &[String]) -> Result<Option<Command<'_>>, AllocError>
+    ensures { IfOk result (λ found. option_map command_read found ≡ command (texts words.now)) }
+{
+    let [name, rest @ ..] = words else {
+        return Ok(None);
+    };
+    if name.as_str() != "replay" {
+        return Ok(None);
+    }
+    let Some(
+        Given {
+            file: Some(file),
+            of,
+        },
+    ) = sort_words(rest)
+    else {
+        return Ok(None);
     };
     if file.is_empty() {
-        return None;
+        return Ok(None);
     }
-    Some(file.as_str())
-}
-
-/// The command that the words are, if any.
-pub(crate) fn command_of(words: &[String]) -> Option<Command<'_>>
-    ensures { option_map command_read result ≡ command (texts words.now) }
-{
-    match words {
-        [name, rest @ ..] => {
-            if name.as_str() != "replay" {
-                return None;
-            }
-            match only_file(rest) {
-                Some(file) => Some(Command::Replay(file)),
-                None => None,
-            }
+    if let Some(name) = of {
+        if !is_module_name(alloc, name)? {
+            return Ok(None);
         }
-        [] => None,
     }
+    Ok(Some(Command::Replay(file, of)))
 }

@@ -1,4 +1,5 @@
-use Rattle.session.proofs.ExclusionLemmas.{one_verdict, one_answer}
+use Rattle.session.proofs.ExclusionLemmas.{one_verdict}
+use Rattle.session.proofs.AnswerLaws.{one_answer}
 use Rattle.session.proofs.outcome.answers_exclude_each_other.Goals as goal
 
 pub returns-clause-verdict : goal.returns-clause-verdict

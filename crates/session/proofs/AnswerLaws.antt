@@ -1,0 +1,163 @@
+-- A replay has one answer, also where it is one of a module.
+use Rattle.std.proofs.Common.{◌≡◌, ◌≢◌, ℕ, ◌++◌, List, [], ◌∷◌, slice_get, refl, sym, ◌∙◌, ap, subst, Option, Some, None, codes}
+use Rattle.std.specs.Prelude.{string_bytes, String}
+use Rattle.std.specs.declared.alloc.Global.{Global}
+use Rattle.edge.specs.Files.{Held}
+use Rattle.layout_lexer.specs.declared.fault.LexFault.{LexFault}
+use Rattle.layout_lexer.specs.declared.fault.LexFault.TheVariants as lex
+use Rattle.grammar.specs.declared.reading.ReadFault.{ReadFault}
+use Rattle.grammar.specs.declared.reading.ReadFault.TheVariants as read
+use Rattle.translation.specs.declared.fault.ScopeFault.{ScopeFault}
+use Rattle.translation.specs.declared.fault.ScopeFault.TheVariants as scope
+use Rattle.trees.specs.Judgements.{Judgement}
+use Rattle.module_texts.specs.declared.text.ModuleText.{ModuleText}
+use Rattle.module_texts.specs.Texts.{path_of}
+use Rattle.loading.specs.declared.text.LoadFault.{LoadFault}
+use Rattle.loading.specs.declared.text.LoadFault.TheVariants as load
+use Rattle.loading.specs.Same.{SameTexts, SameFault, IsDecided}
+use Rattle.loading.proofs.LoadLaws.{loads_one, refuses_one, not_both}
+use Rattle.session.specs.declared.refusal.Cause.{Cause}
+use Rattle.session.specs.declared.refusal.Cause.TheVariants as cause
+use Rattle.session.specs.declared.outcome.Outcome.{Outcome}
+use Rattle.session.specs.declared.outcome.Outcome.TheVariants as outcome
+use Rattle.session.specs.Refusals.{cause_name, place_text, refusal, told_lex, told_read, told_load, told_scope}
+use Rattle.session.specs.Modules.{AreLoaded, NotLoaded, NotResolved, Spells}
+use Rattle.session.specs.Answers.{plain_text, status_of, IsReplayed, MayReplayOf, not_loaded, not_resolved, replayed, OneAnswer}
+use Rattle.session.proofs.ModuleLaws.{same_judgements, same_name, fine_or_refused, refused_once, IsOfText}
+use Rattle.session.proofs.ExclusionLemmas.{SameAnswer, same_missing, replayed_one}
+
+-- how faults are told
+
+same_refusal : (why : Cause) (at : Option ℕ) (p q : String Global) → string_bytes p ≡ string_bytes q → SameAnswer (refusal why at p) (refusal why at q)
+same_refusal why at p q e =
+    (ap (λ x. codes "no: " ++ (cause_name why ++ (place_text at ++ (codes " in " ++ (x ++ codes "\n"))))) e, refl)
+
+told_both : (one other a b : Outcome) → Some a ≡ Some one → Some b ≡ Some other → SameAnswer a b → SameAnswer one other
+told_both one other a b e f s =
+    let g : a ≡ one = cc in
+    let h : b ≡ other = cc in
+    (sym (ap plain_text g) ∙ s.0 ∙ ap plain_text h, sym (ap status_of g) ∙ s.1 ∙ ap status_of h)
+
+told_refusal : (why : Cause) (at : Option ℕ) (p q : String Global) (one other : Outcome) → string_bytes p ≡ string_bytes q → Some (refusal why at p) ≡ Some one → Some (refusal why at q) ≡ Some other → SameAnswer one other
+told_refusal why at p q one other e a b = told_both one other (refusal why at p) (refusal why at q) a b (same_refusal why at p q e)
+
+lex_told : (f : LexFault) (p q : String Global) (one other : Outcome) → string_bytes p ≡ string_bytes q → told_lex f p ≡ Some one → told_lex f q ≡ Some other → SameAnswer one other
+lex_told (lex.NotUtf8 k) p q one other e a b = told_refusal cause.NotUtf8 (Some k) p q one other e a b
+lex_told (lex.BadByte k) p q one other e a b = told_refusal cause.BadByte (Some k) p q one other e a b
+lex_told (lex.OpenComment k) p q one other e a b = told_refusal cause.OpenComment (Some k) p q one other e a b
+lex_told lex.TooLong p q one other e a b = told_refusal cause.TooLong None p q one other e a b
+lex_told lex.Memory p q one other e a b = cc
+
+read_told : (f : ReadFault) (p q : String Global) (one other : Outcome) → string_bytes p ≡ string_bytes q → told_read f p ≡ Some one → told_read f q ≡ Some other → SameAnswer one other
+read_told (read.RefusedForm k) p q one other e a b = told_refusal cause.RefusedForm (Some k) p q one other e a b
+read_told (read.Unexpected k) p q one other e a b = told_refusal cause.Unexpected (Some k) p q one other e a b
+read_told (read.TooDeep k) p q one other e a b = told_refusal cause.TooDeep (Some k) p q one other e a b
+read_told read.Memory p q one other e a b = cc
+
+scope_told : (f : ScopeFault) (p q : String Global) (one other : Outcome) → string_bytes p ≡ string_bytes q → told_scope f p ≡ Some one → told_scope f q ≡ Some other → SameAnswer one other
+scope_told (scope.Unbound k) p q one other e a b = told_refusal cause.Unbound (Some k) p q one other e a b
+scope_told (scope.Twice k) p q one other e a b = told_refusal cause.Twice (Some k) p q one other e a b
+scope_told (scope.NameKind k) p q one other e a b = told_refusal cause.NameKind (Some k) p q one other e a b
+scope_told (scope.GlueSide k) p q one other e a b = told_refusal cause.GlueSide (Some k) p q one other e a b
+scope_told scope.Memory p q one other e a b = cc
+
+load_told : (f g : LoadFault) (one other : Outcome) → SameFault f g → one ≢ outcome.ReadFault → told_load f ≡ Some one → told_load g ≡ Some other → SameAnswer one other
+load_told (load.Missing p) (load.Missing q) one other s n a b = told_both one other (outcome.MissingFile p) (outcome.MissingFile q) a b (same_missing p q s)
+load_told (load.NoTokens f p) (load.NoTokens g q) one other s n a b = lex_told g p q one other s.1 (subst (λ h. told_lex h p ≡ Some one) s.0 a) b
+load_told (load.NoModule f p) (load.NoModule g q) one other s n a b = read_told g p q one other s.1 (subst (λ h. told_read h p ≡ Some one) s.0 a) b
+load_told (load.Cycle p) (load.Cycle q) one other s n a b = told_refusal cause.ImportCycle None p q one other s a b
+load_told (load.TooMany p) (load.TooMany q) one other s n a b = told_refusal cause.TooMany None p q one other s a b
+load_told load.Unreadable g one other s n a b = absurd (n (let e : outcome.ReadFault ≡ one = cc in sym e))
+load_told load.Memory g one other s n a b = cc
+load_told (load.Missing p) (load.NoTokens g q) one other s n a b = absurd s
+load_told (load.Missing p) (load.NoModule g q) one other s n a b = absurd s
+load_told (load.Missing p) (load.Cycle q) one other s n a b = absurd s
+load_told (load.Missing p) (load.TooMany q) one other s n a b = absurd s
+load_told (load.Missing p) load.Unreadable one other s n a b = absurd s
+load_told (load.Missing p) load.Memory one other s n a b = absurd s
+load_told (load.NoTokens f p) (load.Missing q) one other s n a b = absurd s
+load_told (load.NoTokens f p) (load.NoModule g q) one other s n a b = absurd s
+load_told (load.NoTokens f p) (load.Cycle q) one other s n a b = absurd s
+load_told (load.NoTokens f p) (load.TooMany q) one other s n a b = absurd s
+load_told (load.NoTokens f p) load.Unreadable one other s n a b = absurd s
+load_told (load.NoTokens f p) load.Memory one other s n a b = absurd s
+load_told (load.NoModule f p) (load.Missing q) one other s n a b = absurd s
+load_told (load.NoModule f p) (load.NoTokens g q) one other s n a b = absurd s
+load_told (load.NoModule f p) (load.Cycle q) one other s n a b = absurd s
+load_told (load.NoModule f p) (load.TooMany q) one other s n a b = absurd s
+load_told (load.NoModule f p) load.Unreadable one other s n a b = absurd s
+load_told (load.NoModule f p) load.Memory one other s n a b = absurd s
+load_told (load.Cycle p) (load.Missing q) one other s n a b = absurd s
+load_told (load.Cycle p) (load.NoTokens g q) one other s n a b = absurd s
+load_told (load.Cycle p) (load.NoModule g q) one other s n a b = absurd s
+load_told (load.Cycle p) (load.TooMany q) one other s n a b = absurd s
+load_told (load.Cycle p) load.Unreadable one other s n a b = absurd s
+load_told (load.Cycle p) load.Memory one other s n a b = absurd s
+load_told (load.TooMany p) (load.Missing q) one other s n a b = absurd s
+load_told (load.TooMany p) (load.NoTokens g q) one other s n a b = absurd s
+load_told (load.TooMany p) (load.NoModule g q) one other s n a b = absurd s
+load_told (load.TooMany p) (load.Cycle q) one other s n a b = absurd s
+load_told (load.TooMany p) load.Unreadable one other s n a b = absurd s
+load_told (load.TooMany p) load.Memory one other s n a b = absurd s
+
+decided : (f : LoadFault) (told : Outcome) → told_load f ≡ Some told → told ≢ outcome.ReadFault → IsDecided f
+decided (load.Missing p) told e n = tt
+decided load.Unreadable told e n = n (let h : outcome.ReadFault ≡ told = cc in sym h)
+decided (load.NoTokens f p) told e n = tt
+decided (load.NoModule f p) told e n = tt
+decided (load.Cycle p) told e n = tt
+decided (load.TooMany p) told e n = tt
+decided load.Memory told e n = cc
+
+of_text : (f : ScopeFault) (path : String Global) (told : Outcome) → told_scope f path ≡ Some told → IsOfText f
+of_text (scope.Unbound p) path told e = tt
+of_text (scope.Twice p) path told e = tt
+of_text (scope.NameKind p) path told e = tt
+of_text (scope.GlueSide p) path told e = tt
+of_text scope.Memory path told e = cc
+
+-- one of the three ways, in one way
+module _ (held : Held) (name : List ℕ) (one other : Outcome) (n : one ≢ outcome.ReadFault) (n' : other ≢ outcome.ReadFault) where
+  loaded_one : (xs ys : List ModuleText) → AreLoaded (Some held) name xs → AreLoaded (Some held) name ys → SameTexts xs ys
+  loaded_one xs ys a b = loads_one held [] [] [] (name ∷ []) xs ys tt a b
+
+  loaded_or_not : (xs : List ModuleText) (told : Outcome) → told ≢ outcome.ReadFault → AreLoaded (Some held) name xs → NotLoaded (Some held) name told → ⊥
+  loaded_or_not xs told m a b = not_both held [] [] [] (name ∷ []) xs b.fault tt a b.refuses (decided b.fault told b.is_told m)
+
+  both_not_loaded : NotLoaded (Some held) name one → NotLoaded (Some held) name other → SameAnswer one other
+  both_not_loaded a b =
+      let f = decided a.fault one a.is_told n in
+      let g = decided b.fault other b.is_told n' in
+      load_told a.fault b.fault one other (refuses_one held [] [] [] (name ∷ []) a.fault b.fault tt a.refuses b.refuses f g) n a.is_told b.is_told
+
+  both_not_resolved : NotResolved (Some held) name one → NotResolved (Some held) name other → SameAnswer one other
+  both_not_resolved a b =
+      let s = loaded_one a.texts b.texts a.loaded b.loaded in
+      let r = refused_once a.texts b.texts a.at b.at a.fault b.fault s a.refuses b.refuses (of_text a.fault a.path one a.is_told) (of_text b.fault b.path other b.is_told) in
+      let here : slice_get b.texts a.at ≡ Some b.refused = subst (λ i. slice_get b.texts i ≡ Some b.refused) (sym r.0) b.refused_is in
+      let named = same_name a.texts b.texts a.at a.refused b.refused s a.refused_is here in
+      let path : string_bytes a.path ≡ string_bytes b.path = a.path_is ∙ ap path_of named ∙ sym b.path_is in
+      scope_told b.fault a.path b.path one other path (subst (λ f. told_scope f a.path ≡ Some one) r.1 a.is_told) b.is_told
+
+  spelt_one : (Js Ks : List Judgement) → Spells (Some held) name Js → Spells (Some held) name Ks → Js ≡ Ks
+  spelt_one Js Ks a b = a.spelt ∙ same_judgements a.texts b.texts (loaded_one a.texts b.texts a.loaded b.loaded) ∙ sym b.spelt
+
+  spelt_or_refused : (Js : List Judgement) (told : Outcome) → Spells (Some held) name Js → NotResolved (Some held) name told → ⊥
+  spelt_or_refused Js told a b =
+      fine_or_refused a.texts b.texts b.at b.fault (loaded_one a.texts b.texts a.loaded b.loaded) a.fine b.refuses (of_text b.fault b.path told b.is_told)
+
+  pub of_module : (path : List ℕ) → MayReplayOf (Some held) path name one → MayReplayOf (Some held) path name other → SameAnswer one other
+  of_module path (not_loaded a) (not_loaded b) = both_not_loaded a b
+  of_module path (not_loaded a) (not_resolved b) = absurd (loaded_or_not b.texts one n b.loaded a)
+  of_module path (not_loaded a) (replayed Ks b r) = absurd (loaded_or_not b.texts one n b.loaded a)
+  of_module path (not_resolved a) (not_loaded b) = absurd (loaded_or_not a.texts other n' a.loaded b)
+  of_module path (not_resolved a) (not_resolved b) = both_not_resolved a b
+  of_module path (not_resolved a) (replayed Ks b r) = absurd (spelt_or_refused Ks one b a)
+  of_module path (replayed Js a r) (not_loaded b) = absurd (loaded_or_not a.texts other n' a.loaded b)
+  of_module path (replayed Js a r) (not_resolved b) = absurd (spelt_or_refused Js other a b)
+  of_module path (replayed Js a r) (replayed Ks b s) =
+      replayed_one held path (Some Ks) one other n n' (subst (λ Ls. IsReplayed (Some held) path (Some Ls) one) (spelt_one Js Ks a b) r) s
+
+pub one_answer : OneAnswer
+one_answer path None held one other n n' a b = replayed_one held path None one other n n' a b
+one_answer path (Some name) held one other n n' a b = of_module held name one other n n' path a b

@@ -1,0 +1,85 @@
+-- What is told of a module that is not loaded, and what is counted then.
+use Rattle.std.proofs.Common.{◌≡◌, ◌≢◌, ◌<◌, ℕ, zero, suc, List, [], ◌∷◌, length, get_or, slice_get, sym, ap, subst, arith, Some, None, Result, Ok, Err}
+use Rattle.std.specs.Prelude.{String}
+use Rattle.std.specs.declared.alloc.Global.{Global}
+use Rattle.std.proofs.lemmas.Bool.Decides.{nat_tests}
+use Rattle.edge.specs.Counts.{FileCounts, Rose, one_more}
+use Rattle.edge.specs.Seen.{SeenFiles}
+use Rattle.layout_lexer.specs.declared.fault.LexFault.{LexFault}
+use Rattle.layout_lexer.specs.declared.fault.LexFault.TheVariants as lex
+use Rattle.grammar.specs.declared.reading.ReadFault.{ReadFault}
+use Rattle.grammar.specs.declared.reading.ReadFault.TheVariants as read
+use Rattle.translation.specs.declared.fault.ScopeFault.{ScopeFault}
+use Rattle.translation.specs.declared.fault.ScopeFault.TheVariants as scope
+use Rattle.loading.specs.declared.text.LoadFault.{LoadFault}
+use Rattle.loading.specs.declared.text.LoadFault.TheVariants as load
+use Rattle.loading.specs.Texts.{CountsAfter}
+use Rattle.session.specs.declared.outcome.Outcome.{Outcome}
+use Rattle.session.specs.declared.outcome.Outcome.TheVariants as outcome
+use Rattle.session.specs.declared.refusal.Cause.TheVariants as cause
+use Rattle.session.specs.Refusals.{refusal, told_lex, told_read, told_load, told_scope}
+use Rattle.session.specs.Answers.{IsCounted}
+
+pub rose : (n : ℕ) → Rose n (one_more n)
+rose n less = grind (arith, nat_tests)
+
+told_is : (old new : SeenFiles) (o told : Outcome) → Some o ≡ Some told → IsCounted old new o → IsCounted old new told
+told_is old new o told e c = let h : o ≡ told = cc in subst (IsCounted old new) h c
+
+lex_counted : (old new : SeenFiles) (f : LexFault) (path : String Global) (told : Outcome) → told_lex f path ≡ Some told → IsCounted old new told
+lex_counted old new (lex.NotUtf8 p) path told e = told_is old new (refusal cause.NotUtf8 (Some p) path) told e tt
+lex_counted old new (lex.BadByte p) path told e = told_is old new (refusal cause.BadByte (Some p) path) told e tt
+lex_counted old new (lex.OpenComment p) path told e = told_is old new (refusal cause.OpenComment (Some p) path) told e tt
+lex_counted old new lex.TooLong path told e = told_is old new (refusal cause.TooLong None path) told e tt
+lex_counted old new lex.Memory path told e = cc
+
+read_counted : (old new : SeenFiles) (f : ReadFault) (path : String Global) (told : Outcome) → told_read f path ≡ Some told → IsCounted old new told
+read_counted old new (read.RefusedForm p) path told e = told_is old new (refusal cause.RefusedForm (Some p) path) told e tt
+read_counted old new (read.Unexpected p) path told e = told_is old new (refusal cause.Unexpected (Some p) path) told e tt
+read_counted old new (read.TooDeep p) path told e = told_is old new (refusal cause.TooDeep (Some p) path) told e tt
+read_counted old new read.Memory path told e = cc
+
+pub scope_counted : (old new : SeenFiles) (f : ScopeFault) (path : String Global) (told : Outcome) → told_scope f path ≡ Some told → IsCounted old new told
+scope_counted old new (scope.Unbound p) path told e = told_is old new (refusal cause.Unbound (Some p) path) told e tt
+scope_counted old new (scope.Twice p) path told e = told_is old new (refusal cause.Twice (Some p) path) told e tt
+scope_counted old new (scope.NameKind p) path told e = told_is old new (refusal cause.NameKind (Some p) path) told e tt
+scope_counted old new (scope.GlueSide p) path told e = told_is old new (refusal cause.GlueSide (Some p) path) told e tt
+scope_counted old new scope.Memory path told e = cc
+
+counted : (X : Type 0) (old new : SeenFiles) (f : LoadFault) (told : Outcome) → CountsAfter {X = X} (Err f) old.counts new.counts → told_load f ≡ Some told → IsCounted old new told
+counted X old new (load.Missing path) told c e =
+    told_is old new (outcome.MissingFile path) told e (subst (λ n. Rose old.counts.misses n.misses) (sym c) (rose old.counts.misses))
+counted X old new load.Unreadable told c e =
+    told_is old new outcome.ReadFault told e (subst (λ n. Rose old.counts.fetch_faults n.fetch_faults) (sym c) (rose old.counts.fetch_faults))
+counted X old new (load.NoTokens f path) told c e = lex_counted old new f path told e
+counted X old new (load.NoModule f path) told c e = read_counted old new f path told e
+counted X old new (load.Cycle path) told c e = told_is old new (refusal cause.ImportCycle None path) told e tt
+counted X old new (load.TooMany path) told c e = told_is old new (refusal cause.TooMany None path) told e tt
+counted X old new load.Memory told c e = cc
+
+pub load_counted : {X : Type 0} (r : Result X LoadFault) (old new : SeenFiles) (f : LoadFault) (told : Outcome) → r ≡ Err f → CountsAfter r old.counts new.counts → told_load f ≡ Some told → IsCounted old new told
+load_counted {X} r old new f told is c e = counted X old new f told (subst (λ s. CountsAfter s old.counts new.counts) is c) e
+
+-- out of memory is not told
+pub is_told : (f : LoadFault) (told : Outcome) → told_load f ≡ Some told → f ≢ load.Memory
+is_told f told e = λ memory. not (subst (λ g. told_load g ≡ Some told) memory e)
+  where
+    not : None ≡ Some told → ⊥
+    not h = cc
+
+-- no store is tried
+pub no_store : {X : Type 0} (r : Result X LoadFault) (old new : FileCounts) → CountsAfter r old new → new.store_faults ≡ old.store_faults
+no_store (Ok x) old new c = ap (λ n. n.store_faults) c
+no_store (Err (load.Missing path)) old new c = ap (λ n. n.store_faults) c
+no_store (Err load.Unreadable) old new c = ap (λ n. n.store_faults) c
+no_store (Err (load.NoTokens f path)) old new c = ap (λ n. n.store_faults) c
+no_store (Err (load.NoModule f path)) old new c = ap (λ n. n.store_faults) c
+no_store (Err (load.Cycle path)) old new c = ap (λ n. n.store_faults) c
+no_store (Err (load.TooMany path)) old new c = ap (λ n. n.store_faults) c
+no_store (Err load.Memory) old new c = ap (λ n. n.store_faults) c
+
+-- what was read at a place of a list stands there
+pub stands_at : {A : Type 0} (xs : List A) (i : ℕ) (x : A) → i < length xs → x ≡ get_or xs i x → slice_get xs i ≡ Some x
+stands_at [] i x l e = absurd (omega arith)
+stands_at (y ∷ ys) zero x l e = ap Some (sym e)
+stands_at (y ∷ ys) (suc i) x l e = stands_at ys i x (omega arith) e

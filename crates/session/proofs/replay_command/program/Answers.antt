@@ -1,0 +1,43 @@
+use Rattle.std.proofs.Common.{◌≡◌, ◌<◌, ◌∙◌, ap, subst, length, slice_get, Some, inl, inr}
+use Rattle.edge.specs.Seen.{seen_files}
+use Rattle.module_texts.specs.Texts.{path_of}
+use Rattle.linking.specs.Modules.{RefusedFirst}
+use Rattle.session.proofs.LoadedLaws.{load_counted, scope_counted, is_told, stands_at}
+use Rattle.session.proofs.replay_command.program.Goals as goal
+
+pub returns-in-Err-clause-program : goal.returns-in-Err-clause-program
+returns-in-Err-clause-program g c =
+    let see = seen_files g.F.Files.held g.F.Files.counts in
+    let f = c.in-Err.fault in
+    let told = c.in_ok-of_load-in-Err.field-0 in
+    let is = c.in_ok-of_load-in-Err.ensures in (
+      inl (record { fault = f; refuses = c.in-Err.ensures.err (is_told f told is); is_told = is }),
+      load_counted c.load.result (see c.args.files.now) (see c.load.new.files) f told c.in-Err.is c.load.ensures.counted is,
+    )
+
+pub returns-clause-program : goal.returns-clause-program
+returns-clause-program g c =
+    let see = seen_files g.F.Files.held g.F.Files.counts in
+    let xs = c.in-Ok.texts.items in
+    let f = c.in-Err-link.refused.fault in
+    let at = c.in-Err-link.refused.module in
+    let told = c.in_ok-of_scope-in-Err-link.field-0 in
+    let is = c.in_ok-of_scope-in-Err-link.ensures in
+    let path = c.in_ok-path-in-Err-link.path in
+    let refuses : RefusedFirst xs at f = subst (λ ts. RefusedFirst ts at f) c.deref.ensures.value c.in-Err-link.ensures.err in
+    let within : at < length xs = refuses.within in
+    let there : slice_get xs at ≡ Some c.index.result.now = stands_at xs at c.index.result.now within c.index.ensures in (
+      inr (record {
+        texts = xs;
+        loaded = c.in-Ok.ensures.ok;
+        refused = c.index.result.now;
+        at = at;
+        refused_is = there;
+        fault = f;
+        refuses = refuses;
+        path = path;
+        path_is = c.in_ok-path-in-Err-link.ensures ∙ ap path_of c.as_str.ensures.value;
+        is_told = is;
+      }),
+      scope_counted (see c.args.files.now) (see c.load.new.files) f path told is,
+    )

@@ -1,0 +1,45 @@
+use Rattle.std.proofs.Common.{◌≡◌, ◌≢◌, Ok, ap, sym, ◌∙◌, arith, rules, length, get_or, true, false, ◌==◌, ◌⊎◌, inl, inr}
+use Rattle.layout_lexer.specs.declared.token.Token.{Token}
+use Rattle.layout_lexer.specs.declared.fault.LexFault.TheVariants.{Memory}
+use Rattle.layout_lexer.specs.Texts.{tokens_of}
+use Rattle.layout_lexer.specs.declared.token.Kind.TheVariants.{Open}
+use Rattle.session.specs.Words.{is_identifier}
+use Rattle.session.proofs.NameLaws.{fault_is_none, few_or_many, of_none, same_identifier, and_chain, one_token}
+use Rattle.session.proofs.words.is_module_name.Goals as goal
+use Rattle.session.proofs.words.is_module_name.Goals.{in_default, in_default-2, then-token-eq0, else-token-eq0, then-eq, else-eq}
+
+pub returns-in-Err : goal.returns-in-Err
+returns-in-Err c =
+    let known : c.in-Err.field-0 ≢ Memory = search rules in
+    fault_is_none c.args.word.now c.in-Err.field-0 (ap tokens_of (sym c.as_bytes.ensures.value) ∙ c.in-Err.ensures.err known)
+
+pub returns : goal.returns
+returns c =
+    let word = c.args.word.now in
+    let ts = c.in-Ok.tokens in
+    let here : tokens_of word ≡ Ok ts = ap tokens_of (sym c.as_bytes.ensures.value) ∙ c.in-Ok.ensures.ok in
+    let long = ap length c.as_slice.ensures in
+    elim c.if-as_slice-lt1.branch [
+      | in_default w ↦ of_none word c.if-as_slice-lt1.result w.result-is (few_or_many word ts here (λ one. omega (arith, w.in_default.len_below, long, one)))
+      | in_default-2 w ↦ of_none word c.if-as_slice-lt1.result w.result-is (few_or_many word ts here (λ one. omega (arith, w.in_default.len_at_least, long, one)))
+    ]
+
+pub returns-in-len1 : goal.returns-in-len1
+returns-in-len1 c =
+    let word = c.args.word.now in
+    let d : Token = record { kind = Open; start = 0; end = 0; column = 0 } in
+    let t = get_or c.as_slice.result.now 0 d in
+    let here : tokens_of word ≡ Ok c.in-Ok.tokens = ap tokens_of (sym c.as_bytes.ensures.value) ∙ c.in-Ok.ensures.ok in
+    let named = one_token word c.in-Ok.tokens c.as_slice.result.now d here c.as_slice.ensures c.in-len1.len_at_least c.in-len1.len_below in
+    let is : c.eq.result ≡ is_identifier t.kind = c.eq.ensures ∙ same_identifier t.kind in
+    let first : ((is_identifier t.kind ≡ true) × (c.if-eq.value ≡ (t.start == 0))) ⊎ ((is_identifier t.kind ≡ false) × (c.if-eq.value ≡ is_identifier t.kind)) =
+    elim c.if-eq.branch [
+      | then-eq v ↦ inl (sym is ∙ v.if-eq.true, v.value-is)
+      | else-eq v ↦ inr (sym is ∙ v.if-eq.false, v.value-is ∙ is)
+    ] in
+    let second : ((c.if-eq.value ≡ true) × (c.if-token-eq0.result ≡ (t.end == length word))) ⊎ ((c.if-eq.value ≡ false) × (c.if-token-eq0.result ≡ c.if-eq.value)) =
+    elim c.if-token-eq0.branch [
+      | then-token-eq0 w ↦ inl (w.if-token-eq0.true, w.result-is)
+      | else-token-eq0 w ↦ inr (w.if-token-eq0.false, w.result-is)
+    ] in
+    and_chain (is_identifier t.kind) (t.start == 0) (t.end == length word) c.if-eq.value c.if-token-eq0.result first second ∙ sym named

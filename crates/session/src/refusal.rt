@@ -1,0 +1,149 @@
+//! Why a module is refused before it is checked.
+
+ghost use Rattle.std.specs.Prelude.{◌≡◌, IfOk, Some, string_bytes};
+ghost use Rattle.session.specs.Refusals.{cause_name, refusal, told_lex, told_load, told_read};
+ghost use Rattle.session.specs.Refusals.{refusal_text, told_scope};
+
+use crate::outcome::Outcome;
+use grammar::ReadFault;
+use layout_lexer::LexFault;
+use loading::LoadFault;
+use resolver::ScopeFault;
+use std::alloc::{AllocError, Global};
+
+/// Why a module is refused before it is checked.
+#[derive(Clone, Copy, Debug, PartialEq, Eq)]
+pub(crate) enum Cause {
+    /// No character of UTF-8 begins at the place.
+    NotUtf8,
+    /// No token begins at the place.
+    BadByte,
+    /// The comment that begins at the place has no end.
+    OpenComment,
+    /// The text has more than 16,777,216 bytes.
+    TooLong,
+    /// No module begins with the tokens up to the one at the place.
+    Unexpected,
+    /// At the place stands a word that no module has.
+    RefusedForm,
+    /// At the place begins the first thing at depth 513.
+    TooDeep,
+    /// The name at the place is not in scope.
+    Unbound,
+    /// The name at the place is defined a second time.
+    Twice,
+    /// The name at the place is not of the kind that is wanted.
+    NameKind,
+    /// The side at the place is no written pair.
+    GlueSide,
+    /// An import names a module whose loading has not ended.
+    ImportCycle,
+    /// An import names one module more than are loaded.
+    TooMany,
+}
+
+impl Cause {
+    /// What it is called in print.
+    pub(crate) fn name(self) -> &'static str
+        ensures { result.now ≡ cause_name self }
+    {
+        match self {
+            Cause::NotUtf8 => "NotUtf8",
+            Cause::BadByte => "BadByte",
+            Cause::OpenComment => "OpenComment",
+            Cause::TooLong => "TooLong",
+            Cause::Unexpected => "Unexpected",
+            Cause::RefusedForm => "RefusedForm",
+            Cause::TooDeep => "TooDeep",
+            Cause::Unbound => "Unbound",
+            Cause::Twice => "Twice",
+            Cause::NameKind => "NameKind",
+            Cause::GlueSide => "GlueSide",
+            Cause::ImportCycle => "ImportCycle",
+            Cause::TooMany => "TooMany",
+        }
+    }
+}
+
+/// A module that is refused: the cause, where it stands in the file, and the path of the file.
+#[derive(Drop)]
+pub(crate) struct Refusal {
+    pub(crate) cause: Cause,
+    /// In bytes; none for what concerns the whole file.
+    pub(crate) at: Option<u32>,
+    pub(crate) path: String,
+}
+
+impl Refusal {
+    /// The text in plain words, with its newline. The only error is out of memory.
+    pub(crate) fn text(&self, alloc: Global) -> Result<String, AllocError>
+        ensures { IfOk result (λ shown. string_bytes shown ≡ refusal_text self.now) }
+    {
+        let cause = self.cause.name();
+        let path = self.path.as_str();
+        match self.at {
+            Some(at) => format!(in alloc; "no: {cause} at {at} in {path}\n"),
+            None => format!(in alloc; "no: {cause} in {path}\n"),
+        }
+    }
+}
+
+/// The text at the path is refused.
+fn refused(cause: Cause, at: Option<u32>, path: String) -> Outcome
+    ensures { result ≡ refusal cause at path }
+{
+    Outcome::Refused(Refusal { cause, at, path })
+}
+
+/// The text at the path has no tokens.
+fn of_lex(fault: LexFault, path: String) -> Result<Outcome, AllocError>
+    ensures { IfOk result (λ o. told_lex fault path ≡ Some o) }
+{
+    match fault {
+        LexFault::NotUtf8(at) => Ok(refused(Cause::NotUtf8, Some(at), path)),
+        LexFault::BadByte(at) => Ok(refused(Cause::BadByte, Some(at), path)),
+        LexFault::OpenComment(at) => Ok(refused(Cause::OpenComment, Some(at), path)),
+        LexFault::TooLong => Ok(refused(Cause::TooLong, None, path)),
+        LexFault::Memory => Err(AllocError),
+    }
+}
+
+/// The text at the path is read as no module.
+fn of_read(fault: ReadFault, path: String) -> Result<Outcome, AllocError>
+    ensures { IfOk result (λ o. told_read fault path ≡ Some o) }
+{
+    match fault {
+        ReadFault::RefusedForm(at) => Ok(refused(Cause::RefusedForm, Some(at), path)),
+        ReadFault::Unexpected(at) => Ok(refused(Cause::Unexpected, Some(at), path)),
+        ReadFault::TooDeep(at) => Ok(refused(Cause::TooDeep, Some(at), path)),
+        ReadFault::Memory => Err(AllocError),
+    }
+}
+
+/// A module is not loaded.
+pub(crate) fn of_load(fault: LoadFault) -> Result<Outcome, AllocError>
+    ensures { IfOk result (λ o. told_load fault ≡ Some o) }
+{
+    match fault {
+        LoadFault::Missing(path) => Ok(Outcome::MissingFile(path)),
+        LoadFault::Unreadable => Ok(Outcome::ReadFault),
+        LoadFault::NoTokens(fault, path) => of_lex(fault, path),
+        LoadFault::NoModule(fault, path) => of_read(fault, path),
+        LoadFault::Cycle(path) => Ok(refused(Cause::ImportCycle, None, path)),
+        LoadFault::TooMany(path) => Ok(refused(Cause::TooMany, None, path)),
+        LoadFault::Memory => Err(AllocError),
+    }
+}
+
+/// The module at the path is not resolved.
+pub(crate) fn of_scope(fault: ScopeFault, path: String) -> Result<Outcome, AllocError>
+    ensures { IfOk result (λ o. told_scope fault path ≡ Some o) }
+{
+    match fault {
+        ScopeFault::Unbound(at) => Ok(refused(Cause::Unbound, Some(at), path)),
+        ScopeFault::Twice(at) => Ok(refused(Cause::Twice, Some(at), path)),
+        ScopeFault::NameKind(at) => Ok(refused(Cause::NameKind, Some(at), path)),
+        ScopeFault::GlueSide(at) => Ok(refused(Cause::GlueSide, Some(at), path)),
+        ScopeFault::Memory => Err(AllocError),
+    }
+}
