@@ -40,9 +40,6 @@ pub starts : (words : List (List ℕ)) → option_and_then once_each (sorted fal
 unfolding meant
 starts words = same_sorted (sorted false words)
 
-twice : (a b : List ℕ) (words : List (List ℕ)) (s : Sorted) → once_each (record { positional = a ∷ b ∷ words; of = s.of }) ≡ None
-twice a b words s = refl
-
 with_none : Option (List ℕ) → Option Pair
 with_none f = option_map (λ (of : Option (List ℕ)). let p : Pair = (f, of) in p) None
 

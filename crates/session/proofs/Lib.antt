@@ -6,5 +6,6 @@ pub mod ModuleLaws
 pub mod ExclusionLemmas
 pub mod AnswerLaws
 pub mod LoadedLaws
+pub mod FoundLaws
 pub mod ReplayLaws
 pub mod RunLemmas

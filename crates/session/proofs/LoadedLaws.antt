@@ -1,9 +1,9 @@
 -- What is told of a module that is not loaded, and what is counted then.
-use Rattle.std.proofs.Common.{◌≡◌, ◌≢◌, ◌<◌, ℕ, zero, suc, List, [], ◌∷◌, length, get_or, slice_get, sym, ap, subst, arith, Some, None, Result, Ok, Err}
+use Rattle.std.proofs.Common.{◌≡◌, ◌≢◌, ◌<◌, ℕ, zero, suc, List, [], ◌∷◌, length, get_or, slice_get, sym, ap, subst, arith, Some, None, Result, Err}
 use Rattle.std.specs.Prelude.{String}
 use Rattle.std.specs.declared.alloc.Global.{Global}
 use Rattle.std.proofs.lemmas.Bool.Decides.{nat_tests}
-use Rattle.edge.specs.Counts.{FileCounts, Rose, one_more}
+use Rattle.edge.specs.Counts.{Rose, one_more}
 use Rattle.edge.specs.Seen.{SeenFiles}
 use Rattle.layout_lexer.specs.declared.fault.LexFault.{LexFault}
 use Rattle.layout_lexer.specs.declared.fault.LexFault.TheVariants as lex
@@ -66,17 +66,6 @@ is_told f told e = λ memory. not (subst (λ g. told_load g ≡ Some told) memor
   where
     not : None ≡ Some told → ⊥
     not h = cc
-
--- no store is tried
-pub no_store : {X : Type 0} (r : Result X LoadFault) (old new : FileCounts) → CountsAfter r old new → new.store_faults ≡ old.store_faults
-no_store (Ok x) old new c = ap (λ n. n.store_faults) c
-no_store (Err (load.Missing path)) old new c = ap (λ n. n.store_faults) c
-no_store (Err load.Unreadable) old new c = ap (λ n. n.store_faults) c
-no_store (Err (load.NoTokens f path)) old new c = ap (λ n. n.store_faults) c
-no_store (Err (load.NoModule f path)) old new c = ap (λ n. n.store_faults) c
-no_store (Err (load.Cycle path)) old new c = ap (λ n. n.store_faults) c
-no_store (Err (load.TooMany path)) old new c = ap (λ n. n.store_faults) c
-no_store (Err load.Memory) old new c = ap (λ n. n.store_faults) c
 
 -- what was read at a place of a list stands there
 pub stands_at : {A : Type 0} (xs : List A) (i : ℕ) (x : A) → i < length xs → x ≡ get_or xs i x → slice_get xs i ≡ Some x

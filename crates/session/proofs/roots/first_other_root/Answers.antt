@@ -70,39 +70,32 @@ loop-at-preserved c =
     )
 
 -- after the loop all are compared that both have
-ended : (c : After-loop-at) → c.loop-at.at ≡ c.min-both.result
-ended c = omega (arith, c.loop-at-test.false, c.loop-at.auto.at-end)
+compared : (c : After-loop-at) → let Ks = root_judgements c.args.rows in let Js = judgements_of (stated_by c.args.defs.now) in (length c.in_ok-roots.roots.items ≡ length Ks) × (length c.in_ok-claims.claims.items ≡ length Js) × (c.min-both.result ≡ min (length Ks) (length Js)) × (take c.min-both.result Ks ≡ take c.min-both.result Js)
+compared c =
+    let f = rows_mean c.loop-at.rows in
+    let Ks = root_judgements c.args.rows in
+    let Js = judgements_of (stated_by c.args.defs.now) in
+    let i = c.loop-at.invariant in
+    let here = claims_long f c.in_ok-roots.roots.items Ks i.0 in
+    let there = claims_long f c.in_ok-claims.claims.items Js i.1 in
+    let a : c.len.result ≡ length c.in_ok-roots.roots.items = c.len.ensures ∙ c.in_ok-roots.roots.ok.0 in
+    let b : c.len-2.result ≡ length c.in_ok-claims.claims.items = c.len-2.ensures ∙ c.in_ok-claims.claims.ok.0 in
+    let all : c.loop-at.at ≡ c.min-both.result = omega (arith, c.loop-at-test.false, c.loop-at.auto.at-end) in
+    (here, there, omega (arith, c.min-both.ensures, a, b, here, there), subst (λ n. take n Ks ≡ take n Js) all i.2)
 
 pub returns : goal.returns
 returns c =
-    let f = rows_mean c.loop-at.rows in
-    let Ks = root_judgements c.args.rows in
-    let Js = judgements_of (stated_by c.args.defs.now) in
-    let i = c.loop-at.invariant in
-    let here = claims_long f c.in_ok-roots.roots.items Ks i.0 in
-    let there = claims_long f c.in_ok-claims.claims.items Js i.1 in
-    let a : c.len.result ≡ length c.in_ok-roots.roots.items = c.len.ensures ∙ c.in_ok-roots.roots.ok.0 in
-    let b : c.len-2.result ≡ length c.in_ok-claims.claims.items = c.len-2.ensures ∙ c.in_ok-claims.claims.ok.0 in
+    let d = compared (goal.at.returns c).After-loop-at in
     let e : c.len-3.result ≡ length c.in_ok-roots.roots.items = c.len-3.ensures ∙ c.in_ok-roots.roots.ok.0 in
     let g : c.len-4.result ≡ length c.in_ok-claims.claims.items = c.len-4.ensures ∙ c.in_ok-claims.claims.ok.0 in
-    let both : c.min-both.result ≡ min (length Ks) (length Js) = omega (arith, c.min-both.ensures, a, b, here, there) in
-    let all = ended (goal.at.returns c).After-loop-at in
-    ends_at Ks Js c.min-both.result both (λ same. c.if-len.false (e ∙ (here ∙ (same ∙ sym (g ∙ there)))))
-    (subst (λ n. take n Ks ≡ take n Js) all i.2)
+    ends_at (root_judgements c.args.rows) (judgements_of (stated_by c.args.defs.now)) c.min-both.result d.2
+    (λ same. c.if-len.false (e ∙ (d.0 ∙ (same ∙ sym (g ∙ d.1))))) d.3
 
 pub returns-then-len : goal.returns-then-len
 returns-then-len c =
-    let f = rows_mean c.loop-at.rows in
-    let Ks = root_judgements c.args.rows in
-    let Js = judgements_of (stated_by c.args.defs.now) in
-    let i = c.loop-at.invariant in
-    let here = claims_long f c.in_ok-roots.roots.items Ks i.0 in
-    let there = claims_long f c.in_ok-claims.claims.items Js i.1 in
-    let a : c.len.result ≡ length c.in_ok-roots.roots.items = c.len.ensures ∙ c.in_ok-roots.roots.ok.0 in
-    let b : c.len-2.result ≡ length c.in_ok-claims.claims.items = c.len-2.ensures ∙ c.in_ok-claims.claims.ok.0 in
-    let e : c.len-3.result ≡ length c.in_ok-roots.roots.items = c.len-3.ensures ∙ c.in_ok-roots.roots.ok.0 in
-    let g : c.len-4.result ≡ length c.in_ok-claims.claims.items = c.len-4.ensures ∙ c.in_ok-claims.claims.ok.0 in
-    let same : length Ks ≡ length Js = omega (arith, c.if-len.true, e, g, here, there) in
-    let both : c.min-both.result ≡ min (length Ks) (length Js) = omega (arith, c.min-both.ensures, a, b, here, there) in
-    let all = ended (goal.at.returns-then-len c).After-loop-at in
-    all_same Ks Js c.loop-at.at (omega (arith, all, both, same)) (omega (arith, all, both, same)) i.2
+    let d = compared (goal.at.returns-then-len c).After-loop-at in
+    let long = c.len-3.ensures ∙ c.in_ok-roots.roots.ok.0 in
+    let wide = c.len-4.ensures ∙ c.in_ok-claims.claims.ok.0 in
+    let same : length (root_judgements c.args.rows) ≡ length (judgements_of (stated_by c.args.defs.now)) = omega (arith, c.if-len.true, long, wide, d.0, d.1) in
+    let n = c.min-both.result in
+    all_same (root_judgements c.args.rows) (judgements_of (stated_by c.args.defs.now)) n (omega (arith, d.2, same)) (omega (arith, d.2, same)) d.3

@@ -1,11 +1,11 @@
-use Rattle.std.proofs.Common.{◌≡◌, ◌<◌, ◌≤◌, ◌∙◌, ◌-◌, ◌+◌, sym, ap, subst, refl, arith, length, take, drop, Bool, true, false, List, [], ◌∷◌, ℕ, Bor, String, Global, length-drop}
+use Rattle.std.proofs.Common.{◌≡◌, ◌<◌, ◌≤◌, ◌∙◌, ◌-◌, ◌+◌, sym, ap, subst, refl, arith, length, take, drop, Bool, false, List, [], ◌∷◌, ℕ, Bor, String, Global, length-drop}
 use Rattle.std.specs.Option.{option_and_then}
 use Rattle.session.specs.declared.words.Given.{Given}
 use Rattle.session.specs.Words.{texts, sorted, word_of, Dashes, Of, OfIs, Unknown, Positional}
 use Rattle.session.specs.Given.{Notes, given_of, once_each}
-use Rattle.session.proofs.GivenLaws.{starts, Turns, Slot, meant, meant_rest, meant_of_last, meant_unknown, meant_none, meant_dashes, begins_with, none_of, next_of, shorter, turn_of, turn_of_is, turn_file, turn_rest, rest_none}
+use Rattle.session.proofs.GivenLaws.{starts, Turns, TurnsRest, Slot, meant, meant_rest, meant_of_last, meant_unknown, meant_none, meant_dashes, begins_with, none_of, next_of, shorter, turn_of, turn_of_is, turn_file, turn_rest, rest_none}
 use Rattle.session.proofs.words.sort_words.Goals as goal
-use Rattle.session.proofs.words.sort_words.Goals.{Joined-word_of, Joined-rest-lt1, in-Of+in-empty, in-Of+in-len1-up-rest, in-OfIs, in-Unknown, in-Positional, in_default, in-len1-up+in-Dashes}
+use Rattle.session.proofs.words.sort_words.Goals.{After-note-in-loop-word, Joined-word_of, Joined-rest-lt1, in-Of+in-empty, in-Of+in-len1-up-rest, in-OfIs, in-Unknown, in-Positional, in_default, in-len1-up+in-Dashes}
 
 abbrev Words : Type 0
 Words = List (String Global)
@@ -125,8 +125,12 @@ loop-word-init c = rest_means (goal.at.loop-word-init c).Joined-rest-lt1
 pub offset_bounds-word-items-word-index : goal.offset_bounds-word-items-word-index
 offset_bounds-word-items-word-index c = omega (arith, c.well_formed.0.1, c.loop-word.invariant.1, c.loop-word-test.true)
 
-pub returns-then-not-note : goal.returns-then-not-note
-returns-then-not-note c =
+-- after a word of the rest
+abbrev RestTurns : After-note-in-loop-word → Bool → Type 0
+RestTurns c = TurnsRest c.loop-word.given (texts (drop c.loop-word.word-index c.if-rest-lt1.rest.now)) (record { file = c.note-in-loop-word.new.slot; of = c.loop-word.given.of }) (texts (drop (c.loop-word.word-index + 1) c.if-rest-lt1.rest.now))
+
+turn_of_rest : (c : After-note-in-loop-word) → RestTurns c c.note-in-loop-word.result
+turn_of_rest c =
     let ws : Words = c.if-rest-lt1.rest.now in
     let i = c.loop-word.word-index in
     let word = c.as_str-in-loop-word.result.now in
@@ -134,20 +138,19 @@ returns-then-not-note c =
     let h : Given = record { file = c.note-in-loop-word.new.slot; of = g.of } in
     let rest = texts (drop (i + 1) ws) in
     let first : texts (drop i ws) ≡ word ∷ rest = next_of ws i c.word-item-in-loop-word.result (omega (arith, c.loop-word-test.true)) c.word-item-in-loop-word.is ∙ ap (λ v. v ∷ rest) (sym c.as_str-in-loop-word.ensures.value) in
-    let n = subst (λ f. Notes word g.file h.file f) c.if-not-note.true c.note-in-loop-word.ensures in
-    sym (ap (meant_rest (given_of g)) first ∙ turn_rest g h word rest false refl n) ∙ c.loop-word.invariant.0
+    subst (λ vs. TurnsRest g vs h rest c.note-in-loop-word.result) (sym first) (turn_rest g h word rest c.note-in-loop-word.result refl c.note-in-loop-word.ensures)
+
+pub returns-then-not-note : goal.returns-then-not-note
+returns-then-not-note c =
+    let d = (goal.at.returns-then-not-note c).After-note-in-loop-word in
+    let t = subst (RestTurns d) c.if-not-note.true (turn_of_rest d) in
+    sym t ∙ c.loop-word.invariant.0
 
 pub loop-word-preserved : goal.loop-word-preserved
 loop-word-preserved c =
-    let ws : Words = c.if-rest-lt1.rest.now in
-    let i = c.loop-word.word-index in
-    let word = c.as_str-in-loop-word.result.now in
-    let g = c.loop-word.given in
-    let h : Given = record { file = c.note-in-loop-word.new.slot; of = g.of } in
-    let rest = texts (drop (i + 1) ws) in
-    let first : texts (drop i ws) ≡ word ∷ rest = next_of ws i c.word-item-in-loop-word.result (omega (arith, c.loop-word-test.true)) c.word-item-in-loop-word.is ∙ ap (λ v. v ∷ rest) (sym c.as_str-in-loop-word.ensures.value) in
-    let n = subst (λ f. Notes word g.file h.file f) c.if-not-note.false c.note-in-loop-word.ensures in
-    (sym (ap (meant_rest (given_of g)) first ∙ turn_rest g h word rest true refl n) ∙ c.loop-word.invariant.0, c.loop-word.invariant.1)
+    let d = (goal.at.loop-word-preserved c).After-note-in-loop-word in
+    let t = subst (RestTurns d) c.if-not-note.false (turn_of_rest d) in
+    (sym t ∙ c.loop-word.invariant.0, c.loop-word.invariant.1)
 
 pub returns : goal.returns
 returns c =
