@@ -26,6 +26,7 @@ CASES = {
     "other_word": (TWO, ["judge", "{}"], USAGE, 2),
     "no_words": (TWO, [], USAGE, 2),
     "after_dashes": (TWO, ["replay", "--", "{}"], YES, 0),
+    "of_module": (TWO, ["replay", "{}", "--of", "none"], "no: MissingFile in none.ctt\n", 1),
 } | rule_cases.cases(1 if sys.argv[1:] == ["all"] else 10)
 
 
