@@ -13,6 +13,7 @@ pub mod NodeRows
 pub mod PlaceLaws
 pub mod MarkLaws
 pub mod MarksLaws
+pub mod NeededLaws
 pub mod NumberLaws
 pub mod WriteLaws
 pub mod TestLaws

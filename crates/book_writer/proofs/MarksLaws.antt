@@ -137,7 +137,7 @@ marking-start rows roots zeros first marks none f m =
     }
 
 -- what holds at n and above it
-from-here : (P : ℕ → Type 0) (n : ℕ) → P n → ((k : ℕ) → suc n ≤ k → P k) → (k : ℕ) → n ≤ k → P k
+pub from-here : (P : ℕ → Type 0) (n : ℕ) → P n → ((k : ℕ) → suc n ≤ k → P k) → (k : ℕ) → n ≤ k → P k
 from-here P n here above k le = from (nat_lt n k) refl
   where
     from : (b : Bool) → nat_lt n k ≡ b → P k

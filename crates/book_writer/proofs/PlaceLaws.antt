@@ -7,7 +7,7 @@ use Rattle.std.proofs.lemmas.List.{get_or_append_left, get_or_push}
 use Rattle.std.proofs.lemmas.List.Elements.{All-nil, All-cons, All-head, All-tail}
 use Rattle.theory.specs.declared.rule.RuleName.{RuleName}
 use Rattle.trees.specs.Judgements.{Judgement}
-use Rattle.trees.specs.Things.{Meanings, Kept, both, consed, meanings}
+use Rattle.trees.specs.Things.{Thing, Meanings, Kept, both, consed, meanings}
 use Rattle.trees.proofs.Meanings.{meanings-cons}
 use Rattle.rows.proofs.OptionLaws.{one-some}
 use Rattle.deriv_file.specs.declared.row.Row.{Row}
@@ -23,17 +23,17 @@ abbrev pub at : List ℕ → ℕ → ℕ
 at places k = slice_index_or places k 0
 
 -- one more, where what stood there stays
-more-there : {A : Type 0} (f h h' : ℕ → Option A) (places : List ℕ) (place : ℕ) → ((k : ℕ) (x : A) → h k ≡ Some x → h' k ≡ Some x) → ((k : ℕ) (x : A) → k < length places → f k ≡ Some x → h (at places k) ≡ Some x) → h' place ≡ f (length places) → (k : ℕ) (x : A) → k < length (places ++ place ∷ []) → f k ≡ Some x → h' (at (places ++ place ∷ []) k) ≡ Some x
+more-there : {A : Type 0} (f h h' : ℕ → Option A) (places : List ℕ) (place : ℕ) → ((k : ℕ) (x : A) → h k ≡ Some x → h' k ≡ Some x) → ((k : ℕ) (x : A) → k < length places → f k ≡ Some x → h (at places k) ≡ Some x) → ((x : A) → f (length places) ≡ Some x → h' place ≡ Some x) → (k : ℕ) (x : A) → k < length (places ++ place ∷ []) → f k ≡ Some x → h' (at (places ++ place ∷ []) k) ≡ Some x
 more-there {A} f h h' places place kept are last k x lt e =
     let P : ℕ → Type 0 = λ j. (y : A) → f j ≡ Some y → h' (at (places ++ place ∷ []) j) ≡ Some y in
     let old : (j : ℕ) → j < length places → P j = λ j low y is. ap h' (get_or_append_left places (place ∷ []) 0 j low) ∙ kept (at places j) y (are j y low is) in
-    let here : P (length places) = λ y is. ap h' (get_or_push places place 0 (length places) refl) ∙ last ∙ is in
+    let here : P (length places) = λ y is. ap h' (get_or_push places place 0 (length places) refl) ∙ last y is in
     up-to P (length places) old here k (omega (arith, length-append places (place ∷ []))) x e
 
 pub placed-none : (f : Meanings) (rows : List Row) → ArePlaced f rows []
 placed-none f rows = record { each = λ k x lt e. absurd (omega arith) }
 
-pub placed-more : (f : Meanings) (rows rows' : List Row) (places : List ℕ) (place : ℕ) → ArePlaced f rows places → Kept (lines_mean rows) (lines_mean rows') → lines_mean rows' place ≡ f (length places) → ArePlaced f rows' (places ++ place ∷ [])
+pub placed-more : (f : Meanings) (rows rows' : List Row) (places : List ℕ) (place : ℕ) → ArePlaced f rows places → Kept (lines_mean rows) (lines_mean rows') → ((x : Thing) → f (length places) ≡ Some x → lines_mean rows' place ≡ Some x) → ArePlaced f rows' (places ++ place ∷ [])
 placed-more f rows rows' places place are kept last = record {
   each = more-there f (lines_mean rows) (lines_mean rows') places place kept.keeps are.each last;
 }
@@ -46,7 +46,7 @@ placed-kept f rows rows' places are kept = record {
 pub concluded-none : (g : ℕ → Option Judgement) (rows : List Row) → AreConcluded g rows []
 concluded-none g rows = record { each = λ k J lt e. absurd (omega arith) }
 
-pub concluded-more : (g : ℕ → Option Judgement) (rows rows' : List Row) (nodes : List ℕ) (place : ℕ) → AreConcluded g rows nodes → ConclusionsKept (lines_conclude rows) (lines_conclude rows') → lines_conclude rows' place ≡ g (length nodes) → AreConcluded g rows' (nodes ++ place ∷ [])
+pub concluded-more : (g : ℕ → Option Judgement) (rows rows' : List Row) (nodes : List ℕ) (place : ℕ) → AreConcluded g rows nodes → ConclusionsKept (lines_conclude rows) (lines_conclude rows') → ((J : Judgement) → g (length nodes) ≡ Some J → lines_conclude rows' place ≡ Some J) → AreConcluded g rows' (nodes ++ place ∷ [])
 concluded-more g rows rows' nodes place are kept last = record {
   each = more-there g (lines_conclude rows) (lines_conclude rows') nodes place kept.keeps are.each last;
 }

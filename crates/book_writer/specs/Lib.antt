@@ -6,4 +6,5 @@ pub mod Means
 pub mod Pushed
 pub mod Names
 pub mod Served
+pub mod Needed
 pub mod Written

@@ -1,5 +1,5 @@
 -- What the rows of a file mean that is being made.
-use Rattle.std.specs.Prelude.{◌≡◌, ◌<◌, ℕ, List, [], length, Option, Some, None}
+use Rattle.std.specs.Prelude.{◌≡◌, ◌<◌, ℕ, List, [], length, Option, Some, None, IsSome}
 use Rattle.std.specs.Prelude.{slice_index_or}
 use Rattle.std.specs.List.{All}
 use Rattle.trees.specs.Judgements.{Judgement}
@@ -11,6 +11,8 @@ use Rattle.deriv_file.specs.declared.row.Row.TheVariants as row
 use Rattle.derivation.specs.Meanings.{Meaning, Means, Concludes, Nothing, thing_at, conclusion_at}
 use Rattle.derivation.specs.Meanings.{things_at}
 use Rattle.derivation.specs.Right.{thing_made, RightRows}
+use Rattle.book.specs.Contents.{Contents}
+use Rattle.book.specs.Shown.{row_over}
 use Rattle.book_writer.specs.Chains.{IsPlain}
 
 abbrev pub means_some : Option Thing → Meaning
@@ -54,6 +56,13 @@ pub record ConclusionsKept (old new : ℕ → Option Judgement) : Type 0 where
 pub record ArePlaced (f : Meanings) (rows : List Row) (places : List ℕ) : Type 0 where
   pub each : (k : ℕ) (x : Thing) → k < length places → f k ≡ Some x
       → lines_mean rows (slice_index_or places k 0) ≡ Some x
+
+-- the row comes next, and means something where the rows before it mean what f says, as those at
+-- these places do
+pub record MayAdd (f : Meanings) (b : Contents) (row : ℕ) (rows : List Row)
+    (places : List ℕ) : Type 0 where
+  pub placed : ArePlaced f rows places
+  pub there : IsSome (row_over b row f)
 
 -- and at these they conclude what its first nodes do
 pub record AreConcluded (g : ℕ → Option Judgement) (rows : List Row)

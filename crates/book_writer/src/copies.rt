@@ -1,13 +1,18 @@
 //! The rows and the nodes of a book, as rows of a file.
 
-ghost use Rattle.std.specs.Prelude.{◌≡◌, ◌≤◌, ◌<◌, ℕ, IfOk, IsSome, length, map, slice_index_or};
+ghost use Rattle.std.specs.Prelude.{◌≡◌, ◌≤◌, ◌<◌, ℕ, IfOk, IsSome, Some, length, map};
+ghost use Rattle.std.specs.Prelude.{slice_index_or};
 ghost use Rattle.std.specs.List.{All};
-ghost use Rattle.trees.specs.Things.{Kept};
-ghost use Rattle.book.specs.Shown.{book_means, book_concludes};
+ghost use Rattle.trees.specs.Judgements.{Judgement};
+ghost use Rattle.trees.specs.Things.{Thing, Meanings, Kept};
+ghost use Rattle.book.specs.Shown.{book_means, book_concludes, row_over};
 ghost use Rattle.book_writer.specs.Means.{lines_mean, lines_conclude, ArePlaced, AreConcluded};
-ghost use Rattle.book_writer.specs.Means.{ConclusionsKept};
+ghost use Rattle.book_writer.specs.Means.{ConclusionsKept, MayAdd};
+ghost use Rattle.book_writer.specs.Needed.{among, RowsStand, NodesStand};
+ghost use Rattle.book_writer.specs.Served.{IsMarked};
 
 use crate::lines::Lines;
+use crate::needed::Needed;
 use book::{Book, NodeId, NodeRow};
 use interned::Words;
 use rows::{CtxRow, Maker, Row, SubRow, TermRow};
@@ -26,13 +31,15 @@ pub fn placed(places: &[u64], rows: &[u64]) -> Words
     words
 }
 
-/// Adds a row of the book, where those before it are at these places.
+/// Adds a row of the book, where those before it that it names are at these places.
 fn add_row(lines: &mut Lines, book: &Book, row: u64, places: &[u64]) -> Result<u64, AllocError>
     requires there { IsSome (book_means book.now row) }
     requires next { row ≡ length places.now }
-    requires placed { ArePlaced (book_means book.now) lines.old places.now }
+    requires may { (f : Meanings) × MayAdd f book.now row lines.old places.now }
     ensures kept { Kept (lines_mean lines.old) (lines_mean lines.new) }
-    ensures meaning { IfOk result (λ at. lines_mean lines.new at ≡ book_means book.now row) }
+    ensures meaning { IfOk result (λ at. (f : Meanings) →
+        MayAdd f book.now row lines.old places.now →
+        lines_mean lines.new at ≡ row_over book.now row f) }
 {
     let _ = &lines.alloc;
     match book.row(row) {
@@ -61,34 +68,67 @@ fn add_row(lines: &mut Lines, book: &Book, row: u64, places: &[u64]) -> Result<u
     }
 }
 
-/// All rows of the book: their places.
-pub fn add_rows(lines: &mut Lines, book: &Book) -> Result<Vec<u64>, AllocError>
+/// Adds a row of the book if it is needed. The place of another one says nothing.
+fn add_needed(
+    lines: &mut Lines,
+    book: &Book,
+    needed: &[bool],
+    row: u64,
+    places: &[u64],
+) -> Result<u64, AllocError>
+    requires there { IsSome (book_means book.now row) }
+    requires count { row < length needed.now }
+    requires next { row ≡ length places.now }
+    requires stand { RowsStand book.now needed.now 0 }
+    requires placed { ArePlaced (among needed.now (book_means book.now)) lines.old places.now }
+    ensures kept { Kept (lines_mean lines.old) (lines_mean lines.new) }
+    ensures meaning { IfOk result (λ at. (x : Thing) →
+        among needed.now (book_means book.now) row ≡ Some x → lines_mean lines.new at ≡ Some x) }
+{
+    let _ = &lines.alloc;
+    if needed[row as usize] {
+        Ok(add_row(lines, book, row, places)?)
+    } else {
+        Ok(0)
+    }
+}
+
+/// The needed rows of the book: a place for each row.
+pub fn add_rows(lines: &mut Lines, book: &Book, needed: &[bool]) -> Result<Vec<u64>, AllocError>
+    requires count { (k : ℕ) → IsSome (book_means book.now k) → k < length needed.now }
+    requires stand { RowsStand book.now needed.now 0 }
     ensures placed { IfOk result (λ places.
-        ArePlaced (book_means book.now) lines.new places.items) }
+        ArePlaced (among needed.now (book_means book.now)) lines.new places.items) }
     ensures all { IfOk result (λ places. (k : ℕ) →
         IsSome (book_means book.now k) → k < length places.items) }
 {
     let mut places = Vec::new(lines.alloc);
     for row in 0..book.mark().rows {
-        let place = add_row(lines, book, row, &places)?;
+        let place = add_needed(lines, book, needed, row, &places)?;
         places.push(place)?;
     }
     Ok(places)
 }
 
-/// Adds a node of the book, where its rows are at `places` and the nodes before it at `nodes`.
+/// Adds a needed node of the book, where its rows are at `places` and the nodes before it at
+/// `nodes`.
 fn add_node(
     lines: &mut Lines,
     book: &Book,
+    needed: &Needed,
     node: NodeId,
     places: &[u64],
     nodes: &[u64],
 ) -> Result<u64, AllocError>
     requires there { IsSome (book_concludes book.now node.0) }
     requires next { node.0 ≡ length nodes.now }
+    requires marked { IsMarked needed.now.nodes.items node.0 }
+    requires stand { NodesStand book.now needed.now.rows.items needed.now.nodes.items 0 }
     requires all { (k : ℕ) → IsSome (book_means book.now k) → k < length places.now }
-    requires placed { ArePlaced (book_means book.now) lines.old places.now }
-    requires nodes { AreConcluded (book_concludes book.now) lines.old nodes.now }
+    requires placed { let f = among needed.now.rows.items (book_means book.now) in
+        ArePlaced f lines.old places.now }
+    requires nodes { let g = among needed.now.nodes.items (book_concludes book.now) in
+        AreConcluded g lines.old nodes.now }
     ensures kept { Kept (lines_mean lines.old) (lines_mean lines.new) }
     ensures conclusions { ConclusionsKept (lines_conclude lines.old) (lines_conclude lines.new) }
     ensures concludes { IfOk result (λ at.
@@ -104,18 +144,59 @@ fn add_node(
     Ok(lines.add_node(rule, parts.as_slice(), premises.as_slice())?)
 }
 
-/// All nodes of the book, whose rows are at `places`: their places.
-pub fn add_nodes(lines: &mut Lines, book: &Book, places: &[u64]) -> Result<Vec<u64>, AllocError>
-    requires placed { ArePlaced (book_means book.now) lines.old places.now }
+/// Adds a node of the book if it is needed. The place of another one says nothing.
+fn add_needed_node(
+    lines: &mut Lines,
+    book: &Book,
+    needed: &Needed,
+    node: NodeId,
+    places: &[u64],
+    nodes: &[u64],
+) -> Result<u64, AllocError>
+    requires there { IsSome (book_concludes book.now node.0) }
+    requires next { node.0 ≡ length nodes.now }
+    requires count { node.0 < length needed.now.nodes.items }
+    requires stand { NodesStand book.now needed.now.rows.items needed.now.nodes.items 0 }
     requires all { (k : ℕ) → IsSome (book_means book.now k) → k < length places.now }
-    ensures placed { IfOk result (λ nodes.
-        AreConcluded (book_concludes book.now) lines.new nodes.items) }
+    requires placed { let f = among needed.now.rows.items (book_means book.now) in
+        ArePlaced f lines.old places.now }
+    requires nodes { let g = among needed.now.nodes.items (book_concludes book.now) in
+        AreConcluded g lines.old nodes.now }
+    ensures kept { Kept (lines_mean lines.old) (lines_mean lines.new) }
+    ensures conclusions { ConclusionsKept (lines_conclude lines.old) (lines_conclude lines.new) }
+    ensures concludes { let g = among needed.now.nodes.items (book_concludes book.now) in
+        IfOk result (λ at. (J : Judgement) → g node.0 ≡ Some J →
+        lines_conclude lines.new at ≡ Some J) }
+{
+    let _ = &lines.alloc;
+    if needed.nodes[node.0 as usize] {
+        Ok(add_node(lines, book, needed, node, places, nodes)?)
+    } else {
+        Ok(0)
+    }
+}
+
+/// The needed nodes of the book, whose rows are at `places`: a place for each node.
+pub fn add_nodes(
+    lines: &mut Lines,
+    book: &Book,
+    needed: &Needed,
+    places: &[u64],
+) -> Result<Vec<u64>, AllocError>
+    requires count { (k : ℕ) →
+        IsSome (book_concludes book.now k) → k < length needed.now.nodes.items }
+    requires stand { NodesStand book.now needed.now.rows.items needed.now.nodes.items 0 }
+    requires all { (k : ℕ) → IsSome (book_means book.now k) → k < length places.now }
+    requires placed { let f = among needed.now.rows.items (book_means book.now) in
+        ArePlaced f lines.old places.now }
+    ensures placed { let g = among needed.now.nodes.items (book_concludes book.now) in
+        IfOk result (λ nodes. AreConcluded g lines.new nodes.items) }
     ensures all { IfOk result (λ nodes. (k : ℕ) →
         IsSome (book_concludes book.now k) → k < length nodes.items) }
 {
     let mut nodes = Vec::new(lines.alloc);
     for node in 0..book.mark().nodes {
-        let place = add_node(lines, book, NodeId(node), places, &nodes)?;
+        let place = add_needed_node(lines, book, needed, NodeId(node), places, &nodes)?;
         nodes.push(place)?;
     }
     Ok(nodes)

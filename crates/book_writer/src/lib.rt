@@ -15,6 +15,7 @@ mod laws;
 mod lines;
 mod makes;
 mod marks;
+mod needed;
 mod numbering;
 mod writer;
 

@@ -8,7 +8,7 @@ use crate::lines::Lines;
 use std::alloc::AllocError;
 
 /// Marks these rows.
-fn mark_all(marks: &mut [bool], rows: &[u64])
+pub fn mark_all(marks: &mut [bool], rows: &[u64])
     requires { All (λ k. k < length marks.old) rows.now }
     ensures { Marks marks.old rows.now marks.new }
 {

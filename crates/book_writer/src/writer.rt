@@ -11,6 +11,7 @@ ghost use Rattle.book_writer.specs.Written.{Appends, concluded_by};
 
 use crate::copies::{add_nodes, add_rows};
 use crate::lines::Lines;
+use crate::needed::needed_by;
 use crate::numbering::{Numbering, append_roots, numbers};
 use book::{Book, NodeId};
 use std::alloc::{AllocError, Global};
@@ -34,6 +35,17 @@ impl Lines {
         append_roots(&of, roots, into)?;
         Ok(rows)
     }
+}
+
+/// The numbers of these nodes.
+fn node_numbers(alloc: Global, nodes: &[NodeId]) -> Result<Vec<u64>, AllocError>
+    ensures { IfOk result (λ found. found.items ≡ map (λ node. node.0) nodes.now) }
+{
+    let mut found = Vec::new(alloc);
+    for node in nodes {
+        found.push(node.0)?;
+    }
+    Ok(found)
 }
 
 /// The places of these nodes.
@@ -61,9 +73,11 @@ fn append(
         IfOk result (λ rows. Appends into.old.items into.new.items rows Js) }
     ensures err { OnErr result (Extends into.old.items into.new.items) }
 {
+    let asked = node_numbers(alloc, roots)?;
+    let needed = needed_by(book, alloc, &asked)?;
     let mut lines = Lines::new(alloc)?;
-    let places = add_rows(&mut lines, book)?;
-    let nodes = add_nodes(&mut lines, book, &places)?;
+    let places = add_rows(&mut lines, book, &needed.rows)?;
+    let nodes = add_nodes(&mut lines, book, &needed, &places)?;
     let roots = root_places(alloc, &nodes, roots)?;
     Ok(lines.append_file(&roots, into)?)
 }

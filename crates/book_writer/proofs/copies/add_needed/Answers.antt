@@ -1,8 +1,5 @@
-use Rattle.std.proofs.Common.{◌≡◌, ◌∙◌, Some, ap, cc, true, false, arith, sym, subst, IsSome}
-use Rattle.std.proofs.lemmas.Option.{slice_get-get_or}
-use Rattle.trees.specs.Things.{Thing}
-use Rattle.rows.proofs.MeaningLaws.{is_some-value}
-use Rattle.book.specs.Shown.{book_means, row_over}
+use Rattle.std.proofs.Common.{◌∙◌, arith}
+use Rattle.book.specs.Shown.{book_means}
 use Rattle.book_writer.specs.Needed.{among}
 use Rattle.book_writer.proofs.NeededLaws.{among-some, may-add, mark-is, unmarked}
 use Rattle.book_writer.proofs.copies.add_needed.Goals as goal

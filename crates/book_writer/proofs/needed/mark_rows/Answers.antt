@@ -1,12 +1,11 @@
-use Rattle.std.proofs.Common.{◌≡◌, ◌∙◌, ◌-◌, ◌<◌, suc, ℕ, length, sym, ap, subst, arith}
-use Rattle.std.specs.List.{All}
+use Rattle.std.proofs.Common.{◌≡◌, ◌-◌, ◌<◌, suc, length, refl, arith}
 use Rattle.std.proofs.lemmas.List.Elements.{All-weaker}
 use Rattle.interned.specs.Names.{row_names}
 use Rattle.book_writer.proofs.NeededLaws.{rows-start, rows-on, rows-skip, rows-end, unmarked}
 use Rattle.book_writer.proofs.needed.mark_rows.Goals as goal
 
 pub loop-left-init : goal.loop-left-init
-loop-left-init c = rows-start c.args.book.now c.args.rows.now c.len-left.result (c.len-left.ensures)
+loop-left-init c = rows-start c.args.book.now c.args.rows.now (length c.args.rows.now) refl
 
 pub bounds-rows-left : goal.bounds-rows-left
 bounds-rows-left c = omega (arith, c.loop-left-test.true, c.loop-left.invariant.few, c.loop-left.invariant.count)

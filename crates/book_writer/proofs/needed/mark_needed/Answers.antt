@@ -1,7 +1,7 @@
 use Rattle.std.proofs.Common.{◌∙◌, length, refl}
 use Rattle.std.proofs.lemmas.List.Elements.{All-weaker}
 use Rattle.trees.specs.Things.{meanings}
-use Rattle.book.specs.Shown.{book_means, book_concludes}
+use Rattle.book.specs.Shown.{book_concludes}
 use Rattle.rows.proofs.MeaningLaws.{is_some-value}
 use Rattle.book_writer.specs.Served.{IsMarked}
 use Rattle.book_writer.proofs.PlaceLaws.{all-low}

@@ -1,7 +1,6 @@
-use Rattle.std.proofs.Common.{◌∙◌, List, Bool, false, length, replicate, sym, ap, subst, arith}
+use Rattle.std.proofs.Common.{◌∙◌, false, length, ap, arith}
 use Rattle.std.proofs.lemmas.List.{with_items_is, length-replicate}
-use Rattle.book_writer.specs.Needed.{AreNeeded}
-use Rattle.book_writer.proofs.NeededLaws.{counted-from}
+use Rattle.book_writer.proofs.NeededLaws.{counted-from, needed-as}
 use Rattle.book_writer.proofs.needed.needed_by.Goals as goal
 
 pub mark_needed-requires-clause-count : goal.mark_needed-requires-clause-count
@@ -15,5 +14,4 @@ returns c =
     let b = c.args.book.now in
     let rows = with_items_is c.in_ok-rows.rows c.mark_needed.new.rows (omega (arith, c.mark_needed.ensures.row_count, ap length c.deref_mut.ensures.value, c.in_ok-rows.ensures.len)) in
     let nodes = with_items_is c.in_ok-nodes.nodes c.mark_needed.new.nodes (omega (arith, c.mark_needed.ensures.node_count, ap length c.deref_mut-2.ensures.value, c.in_ok-nodes.ensures.len)) in
-    subst (λ (ms : List Bool). AreNeeded b c.args.roots.now ms _) (sym rows)
-    (subst (λ (ns : List Bool). AreNeeded b c.args.roots.now c.mark_needed.new.rows ns) (sym nodes) c.mark_needed.ensures.needed)
+    needed-as b c.args.roots.now c.mark_needed.new.rows c.mark_needed.new.nodes _ _ rows nodes c.mark_needed.ensures.needed

@@ -1,4 +1,4 @@
-use Rattle.std.proofs.Common.{◌≡◌, ◌∙◌, ◌-◌, ◌<◌, suc, ℕ, length, sym, ap, subst, arith, Some, IsSome}
+use Rattle.std.proofs.Common.{◌≡◌, ◌-◌, ◌<◌, suc, length, refl, sym, subst, arith}
 use Rattle.std.specs.List.{All}
 use Rattle.std.proofs.lemmas.List.Elements.{All-weaker}
 use Rattle.rows.proofs.MeaningLaws.{is_some-value}
@@ -10,7 +10,7 @@ use Rattle.book_writer.proofs.NeededLaws.{nodes-start, nodes-on, nodes-skip, nod
 use Rattle.book_writer.proofs.needed.mark_nodes.Goals as goal
 
 pub loop-left-init : goal.loop-left-init
-loop-left-init c = nodes-start c.args.book.now c.args.rows.now c.args.nodes.now c.len-left.result (c.len-left.ensures)
+loop-left-init c = nodes-start c.args.book.now c.args.rows.now c.args.nodes.now (length c.args.nodes.now) refl
 
 pub bounds-nodes-left : goal.bounds-nodes-left
 bounds-nodes-left c = omega (arith, c.loop-left-test.true, c.loop-left.invariant.few, c.loop-left.invariant.node_count)
@@ -25,8 +25,8 @@ pub mark_all-requires : goal.mark_all-requires
 mark_all-requires c =
     All-weaker (λ k. k < c.loop-left.left - 1) (λ k. k < length c.loop-left.nodes) (λ k low. omega (arith, low, c.loop-left-test.true, c.loop-left.invariant.few, c.loop-left.invariant.node_count)) c.step.result.premises.now c.step.ensures.earlier
 
-pub mark_all-requires-2 : goal.mark_all-requires-2
-mark_all-requires-2 c =
+pub mark_all-requires-then-nodes-left : goal.mark_all-requires-then-nodes-left
+mark_all-requires-then-nodes-left c =
     let b = c.args.book.now in
     let J = is_some-value (book_concludes b (c.loop-left.left - 1)) ((c.requires.nodes_are (c.loop-left.left - 1)).1 (omega (arith, c.loop-left-test.true, c.loop-left.invariant.few))) in
     let u = c.step.ensures.right J.0 J.1 in
@@ -39,10 +39,10 @@ loop-left-preserved-then-nodes-left c =
     let s = c.step.result in
     let made = c.step.ensures.made in
     let more : l.left ≡ suc (l.left - 1) = omega (arith, c.loop-left-test.true) in
-    nodes-on c.args.book.now c.args.rows.now c.args.nodes.now l.left (l.left - 1) l.rows l.nodes c.mark_all-2.new.marks c.mark_all.new.marks made.node more made.is
+    nodes-on c.args.book.now c.args.rows.now c.args.nodes.now l.left (l.left - 1) l.rows l.nodes c.mark_all-then-nodes-left.new.marks c.mark_all.new.marks made.node more made.is
     (subst (All (λ k. k < l.left - 1)) (sym made.premises_are) c.step.ensures.earlier)
     (subst (λ ks. Marks l.nodes ks c.mark_all.new.marks) (sym made.premises_are) c.mark_all.ensures)
-    (subst (λ ks. Marks l.rows ks c.mark_all-2.new.marks) (sym made.parts_are) c.mark_all-2.ensures)
+    (subst (λ ks. Marks l.rows ks c.mark_all-then-nodes-left.new.marks) (sym made.parts_are) c.mark_all-then-nodes-left.ensures)
     l.invariant
 
 pub loop-left-preserved : goal.loop-left-preserved

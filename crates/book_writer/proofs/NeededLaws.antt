@@ -1,5 +1,5 @@
 -- Rows and nodes of a book that stand on marked ones.
-use Rattle.std.proofs.Common.{◌≡◌, ℕ, suc, ◌<◌, ◌≤◌, ◌↔◌, inl, inr, Bool, true, false, List, [], ◌∷◌, length, get_or, map, refl, sym, ◌∙◌, ap, ap₂, subst, arith, Option, Some, None, IsSome}
+use Rattle.std.proofs.Common.{◌≡◌, ℕ, suc, ◌<◌, ◌≤◌, ◌↔◌, inl, inr, Bool, true, false, List, [], ◌∷◌, length, get_or, refl, sym, ◌∙◌, ap, ap₂, subst, arith, Option, Some, None, IsSome}
 use Rattle.std.specs.Prelude.{slice_get, option_and_then}
 use Rattle.std.specs.List.{All}
 use Rattle.std.proofs.lemmas.Option.{slice_get_within, slice_get-get_or}
@@ -29,7 +29,7 @@ use Rattle.book.specs.Shown.{book_means, book_nodes, book_concludes, row_over}
 use Rattle.deriv_file.specs.declared.row.Row.{Row as FileRow}
 use Rattle.book_writer.specs.Means.{ArePlaced, MayAdd}
 use Rattle.book_writer.specs.Served.{IsMarked, Marks}
-use Rattle.book_writer.specs.Needed.{where_marked, among, RowsStand, NodesStand, AreCounted}
+use Rattle.book_writer.specs.Needed.{where_marked, among, RowsStand, NodesStand, AreCounted, AreNeeded}
 use Rattle.book_writer.proofs.MarksLaws.{from-here}
 
 -- what is marked
@@ -196,10 +196,10 @@ nodes-on b start first left next rows nodes rows' nodes' node more at low m p g 
       subst (λ (q : Node). All (IsMarked nodes') q.premises) (same n e) m.all,
     ) in
     let last : (k : ℕ) → suc next ≤ k → P k = λ k le n is e.
-        let was = above nodes nodes' node.premises next low m k (omega (arith, le)) is in (
-          All-weaker (IsMarked rows) (IsMarked rows') (λ j w. p.kept j w) n.parts (g.stand.parts k n (omega (arith, more, le)) was e),
-          All-weaker (IsMarked nodes) (IsMarked nodes') (λ j w. m.kept j w) n.premises (g.stand.premises k n (omega (arith, more, le)) was e),
-        ) in
+    let was = above nodes nodes' node.premises next low m k (omega (arith, le)) is in (
+      All-weaker (IsMarked rows) (IsMarked rows') (λ j w. p.kept j w) n.parts (g.stand.parts k n (omega (arith, more, le)) was e),
+      All-weaker (IsMarked nodes) (IsMarked nodes') (λ j w. m.kept j w) n.premises (g.stand.premises k n (omega (arith, more, le)) was e),
+    ) in
     record {
       row_count = p.count ∙ g.row_count;
       node_count = m.count ∙ g.node_count;
@@ -295,3 +295,8 @@ counted-from b rows nodes i j f g r n = record {
   rows_are = λ k. (λ some. let low = (f k).0 some in omega (arith, r, low), λ low. (f k).1 (omega (arith, r, low)));
   nodes_are = λ k. (λ some. let low = (g k).0 some in omega (arith, n, low), λ low. (g k).1 (omega (arith, n, low)));
 }
+
+-- what is needed, of marks that are these
+pub needed-as : (b : Contents) (roots : List ℕ) (rows nodes rows' nodes' : List Bool) → rows' ≡ rows → nodes' ≡ nodes → AreNeeded b roots rows nodes → AreNeeded b roots rows' nodes'
+needed-as b roots rows nodes rows' nodes' r n h =
+    subst (λ (ms : List Bool). AreNeeded b roots ms nodes') (sym r) (subst (λ (ns : List Bool). AreNeeded b roots rows ns) (sym n) h)

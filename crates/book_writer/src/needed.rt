@@ -68,7 +68,9 @@ fn mark_nodes(book: &Book, rows: &mut [bool], nodes: &mut [bool])
         left -= 1;
         if nodes[left] {
             let NodeRow {
-                parts, premises, ..
+                parts,
+                premises,
+                ..
             } = book.step(NodeId(left as u64));
             mark_all(nodes, premises);
             mark_all(rows, parts);

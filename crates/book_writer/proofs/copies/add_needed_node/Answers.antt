@@ -1,7 +1,6 @@
 use Rattle.std.proofs.Common.{◌∙◌}
 use Rattle.book.specs.Shown.{book_concludes}
-use Rattle.book_writer.specs.Needed.{among}
-use Rattle.book_writer.proofs.NeededLaws.{among-some, mark-is, unmarked}
+use Rattle.book_writer.proofs.NeededLaws.{among-some}
 use Rattle.book_writer.proofs.copies.add_needed_node.Goals as goal
 
 pub returns-in_ok-add_node-clause-concludes : goal.returns-in_ok-add_node-clause-concludes
