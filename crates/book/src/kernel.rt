@@ -62,7 +62,8 @@ impl Model for Book {
 }
 
 impl Book {
-    ghost use Rattle.std.specs.Prelude.{◌≡◌, ◌↔◌, ◌≤◌, ◌<◌, ◌+◌, ℕ, None, Some, IfOk, OnOk, IsOk};
+    ghost use Rattle.std.specs.Prelude.{◌≡◌, ◌↔◌, ◌≤◌, ◌<◌, ◌+◌, ◌^◌, ℕ, None, Some, IfOk, OnOk};
+    ghost use Rattle.std.specs.Prelude.{IsOk};
     ghost use Rattle.std.specs.Prelude.{IsSome, IsTrue, length};
     ghost use Rattle.std.specs.List.{All};
     ghost use Rattle.trees.specs.Judgements.{Judgement};
@@ -227,6 +228,13 @@ impl Book {
         ensures nodes { AreRight (book_means self.now) self.now.nodes }
     {
         let _ = &self.nodes;
+    }
+
+    /// There are no more rows than a table tells apart.
+    pub fn few_rows(&self)
+        ensures { length self.now.rows ≤ 2 ^ 48 }
+    {
+        self.rows.few_rows();
     }
 
     /// Every node of the book is provable by the rules.

@@ -23,7 +23,8 @@ pub struct InternedRows {
 }
 
 impl InternedRows {
-    ghost use Rattle.std.specs.Prelude.{◌≡◌, ◌<◌, ◌≤◌, ◌+◌, [], length, take, IfOk, OnOk, OnErr};
+    ghost use Rattle.std.specs.Prelude.{◌≡◌, ◌<◌, ◌≤◌, ◌+◌, ◌^◌, [], length, take, IfOk, OnOk};
+    ghost use Rattle.std.specs.Prelude.{OnErr};
     ghost use Rattle.std.specs.Prelude.{IsOk, IsSome, slice_get, Some};
     ghost use Rattle.std.specs.List.{All};
     ghost use Rattle.trees.specs.Things.{Meanings, Kept};
@@ -49,6 +50,13 @@ impl InternedRows {
         ensures { result ≡ length (things self.now) }
     {
         self.region.len()
+    }
+
+    /// There are no more rows than a table tells apart.
+    pub fn few_rows(&self)
+        ensures { length (things self.now) ≤ 2 ^ 48 }
+    {
+        let _len = self.region.len();
     }
 
     /// The number of rows, to go back to.

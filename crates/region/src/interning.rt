@@ -68,7 +68,7 @@ impl Region {
     #[tactic(auto, using(crate::proofs::SlotLaws::length_marks))]
     pub fn len(&self) -> u64
         ensures count { result ≡ length self.now.rows }
-        ensures few { result ≤ 2 ^ 62 }
+        ensures few { result ≤ 2 ^ 48 }
         ensures distinct { AreDistinct self.now.rows }
     {
         self.store.len() as u64
