@@ -29,7 +29,7 @@ def listed(lines):
 
 def used(text, names):
     """The crates among those names from which the program brings something in."""
-    return [name for name in names if re.search(rf"^use {name}\b", text, re.MULTILINE)]
+    return [name for name in names if re.search(rf"^(use |ghost use Rattle\.){name}\b", text, re.MULTILINE)]
 
 
 def make(folder, text):
