@@ -78,6 +78,7 @@ pub fn derive_two(
         → Gives s book.old book.new parts.now premises.now (nodes.0.0 ∷ nodes.1.0 ∷ [])) }
 {
     let nodes = derived(book, rows, gives, parts, premises)?;
-    let nodes = nodes.as_slice();
-    Ok((NodeId(nodes[0]), NodeId(nodes[1])))
+    let first = nodes.as_slice()[0];
+    let second = nodes.as_slice()[1];
+    Ok((NodeId(first), NodeId(second)))
 }

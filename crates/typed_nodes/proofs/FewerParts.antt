@@ -1,6 +1,6 @@
 -- Rows that name the first parts alone run alike over these.
-use Rattle.std.proofs.Common.{◌≡◌, ℕ, zero, suc, ◌<◌, List, [], ◌∷◌, ◌++◌, length, take, get_or, refl, sym, ◌∙◌, ap, subst, arith, Some}
-use Rattle.std.specs.Prelude.{slice_get, nat_lt, Bool, true, false, ◌&&◌}
+use Rattle.std.proofs.Common.{◌≡◌, ℕ, zero, suc, ◌<◌, List, [], ◌∷◌, ◌++◌, length, take, refl, sym, ◌∙◌, arith, Some}
+use Rattle.std.specs.Prelude.{slice_get, Bool, true, false, ◌&&◌}
 use Rattle.std.specs.List.{list_all}
 use Rattle.std.proofs.lemmas.Bool.{ltb-true}
 use Rattle.trees.specs.Judgements.{Judgement}
@@ -12,7 +12,7 @@ use Rattle.recipes.specs.declared.row.Row.{Row}
 use Rattle.recipes.specs.declared.row.Row.TheVariants as row
 use Rattle.recipes.specs.Made.{Made, node_at}
 use Rattle.recipes.specs.Statements.{Statement}
-use Rattle.recipes.specs.Derivations.{Derives, Makes, Runs, RunsTo, MayStandAt, premises_at, conclusions_at}
+use Rattle.recipes.specs.Derivations.{Makes, Runs, RunsTo, premises_at, conclusions_at}
 use Rattle.recipe_runner.specs.Running.{MayRun, nothing}
 use Rattle.recipe_runner.proofs.FlatLaws.{flat-derives}
 use Rattle.typed_nodes.specs.Calls.{names_first, IsTableOf, MayCall}
@@ -48,7 +48,7 @@ runs-fewer : (earlier : List Statement) (n : ℕ) (things : List Thing) (premise
 runs-fewer earlier n things premises known [] whole h runs = runs
 runs-fewer earlier n things premises known (r ∷ rows) whole h runs =
     let e = both (names_first n r) (list_all (names_first n) rows) h in
-    (runs.0, makes-fewer earlier n things premises known r runs.0 e.0 runs.1.0, runs-fewer earlier n things premises (known ++ runs.0) rows whole e.1 runs.1.1)
+    (runs.0, (makes-fewer earlier n things premises known r runs.0 e.0 runs.1.0, runs-fewer earlier n things premises (known ++ runs.0) rows whole e.1 runs.1.1))
 
 runs-to-fewer : (earlier : List Statement) (n : ℕ) (things : List Thing) (premises : List Judgement) (rows : List Row) (outs : List ℕ) (gives : List Judgement) → list_all (names_first n) rows ≡ true → RunsTo earlier things premises rows outs gives → RunsTo earlier (take n things) premises rows outs gives
 runs-to-fewer earlier n things premises rows outs gives h runs = record {

@@ -1,0 +1,4 @@
+pub mod CallLaws
+pub mod FewerParts
+pub mod HomeLaws
+pub mod StandLaws
