@@ -30,6 +30,7 @@ CRATES = {
         "transported", "motive_start", "motive_step", "recursion", "path_in_universe",
         "family_of_numbers",
     ],
+    "literal_types": ["with_face", "past_face"],
     "openings": [
         "open_binder", "open_pathp", "open_glue_type", "open_lam", "open_pair", "open_plam",
         "open_glue", "open_binder_u", "open_pathp_u", "open_glue_type_u", "up_var", "up_name",
@@ -47,7 +48,7 @@ EARLIER |= {name: CRATES["kan_fill"] for name in CRATES["kan_tests"]}
 
 # The crates whose tables read the parts of a recipe from its premises, where these name them, so
 # that a call passes the others alone, which come first.
-READ = {"typing_rules"}
+READ = {"typing_rules", "literal_types"}
 
 WIDTH = 100
 MOST_PARTS, MOST_WANTED, MOST_PREMISES, MOST_KIDS = 10, 7, 16, 4

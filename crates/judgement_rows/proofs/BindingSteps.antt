@@ -11,6 +11,7 @@ use Rattle.form_rows.specs.Meant.{Is, Are, AreTrees, nest}
 use Rattle.form_rows.proofs.RowLaws.{trees_kept}
 use Rattle.judgement_rows.specs.declared.places.Place.{Place}
 use Rattle.judgement_rows.specs.declared.places.Under.{Under}
+use Rattle.numbered.specs.declared.numbered.Numbered.{Numbered}
 use Rattle.judgement_rows.specs.declared.bodies.Body.{Body}
 use Rattle.judgement_rows.specs.Places.{BoundIn, AllNamedIn}
 use Rattle.judgement_rows.specs.Steps.{State, FitsSome, Spells, Row}
@@ -26,7 +27,7 @@ use Rattle.judgement_rows.proofs.Arms.{with_rows, more_rows}
 pub some_defined : {s t : State} {p : Place} {m : Means ℕ (Scope ℕ)} → FitsSome s p → Defines s t p m → FitsSome t p
 some_defined {m = m} h d = ((m h.0).value, (d.moves h.0 h.1).value)
 
-pub cut_to : {n m : ℕ} (xs : List Body) {ys : List Body} → n ≡ m → ys ≡ take n xs → ys ≡ take m xs
+pub cut_to : {n m : ℕ} (xs : List (Numbered Body)) {ys : List (Numbered Body)} → n ≡ m → ys ≡ take n xs → ys ≡ take m xs
 cut_to xs {ys} e h = subst (λ k. ys ≡ take k xs) e h
 
 -- binders

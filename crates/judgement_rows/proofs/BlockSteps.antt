@@ -41,7 +41,7 @@ pub definition_made : {s t w x z : State} {f : Meanings} {p : Place} {u : Under}
     → Kept x.means f → ((ts : List Tree) (t : Tree) → Are x.means u.types.items ts → Is x.means ty t → Is f closed_ty (nest op.Pi ts t))
     → Kept f z.means → ((ts : List Tree) (t : Tree) → Are f u.types.items ts → Is f row t → Is z.means closed_row (nest op.Lam ts t))
     → z.claims ≡ x.claims ++ claim.Ty p.context closed_ty ∷ claim.Tm p.context closed_row closed_ty ∷ []
-    → z.bodies ≡ x.bodies ++ record { number = o.number; row = closed_row; depth = p.depth } ∷ []
+    → z.bodies ≡ x.bodies ++ record { number = o.number; value = record { row = closed_row; depth = p.depth } } ∷ []
     → Defines s z p (def_scope d))
 unfolding under_trees code_tree def_scope
 definition_made {s} {t} {w} {x} {z} {f} {p} {u} {ty} {row} {closed_ty} {closed_row} d first second third j types k bodies claims more =

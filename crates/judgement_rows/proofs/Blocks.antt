@@ -1,5 +1,5 @@
 -- Definitions, and what stands after them.
-use Rattle.std.proofs.Common.{◌≡◌, ◌==◌, ◌+◌, ◌-◌, ◌<◌, ℕ, true, false, List, [], ◌∷◌, ◌++◌, map, length, get_or, take, Option, Some, None, refl, sym, ap, ap₂, ◌∙◌, arith, subst, if◌then◌else◌}
+use Rattle.std.proofs.Common.{◌≡◌, ◌==◌, ◌-◌, ℕ, true, false, List, [], ◌∷◌, ◌++◌, map, length, take, Option, Some, None, refl, sym, ap, ap₂, ◌∙◌, arith, subst, if◌then◌else◌}
 use Rattle.trees.specs.declared.op.Op.TheVariants as op
 use Rattle.trees.specs.Trees.{Tree, apply, shift_by}
 use Rattle.trees.specs.Language.{Ty, Tm}
@@ -18,11 +18,13 @@ use Rattle.codes.specs.declared.code.Binder.{Binder}
 use Rattle.codes.specs.Codes.{body_of, definition, definitions, and_then, binder}
 use Rattle.codes.proofs.Logs.{then_done, then_assoc, then_same}
 use Rattle.form_rows.specs.Meant.{Is, Are, nest}
-use Rattle.form_rows.proofs.RowLaws.{kept_then, is_kept, are_kept, take_next}
+use Rattle.form_rows.proofs.RowLaws.{kept_then, is_kept, are_kept}
 use Rattle.judgement_rows.specs.declared.places.Place.{Place}
 use Rattle.judgement_rows.specs.declared.places.Under.{Under}
 use Rattle.judgement_rows.specs.declared.bodies.Body.{Body}
-use Rattle.judgement_rows.specs.Bodies.{newest, later}
+use Rattle.numbered.specs.Newest.{newest, later}
+use Rattle.numbered.specs.declared.numbered.Numbered.{Numbered}
+use Rattle.numbered.proofs.Searches.{newest_append}
 use Rattle.judgement_rows.specs.Steps.{State, Fits, Stands, StandsFor, Moves, Spells, Row}
 use Rattle.judgement_rows.specs.Words.{IsUnder, Defines}
 use Rattle.judgement_rows.specs.Under.{entered, folded}
@@ -86,42 +88,25 @@ after_block {s} {t} {u} {v} {p} {r} block term a b means claims bodies =
           (λ G i. moves_as t u v (Row r) (Row r) (term G) kept claims (λ x y. is_kept kept y) (b.moves G i));
     }
 
--- the newest body
-
-pub newest_push : (bs : List Body) (b : Body) (n : ℕ) → newest (bs ++ b ∷ []) n ≡ (if b.number == n then Some b else newest bs n)
-newest_push [] b n = elim (b.number == n) as (λ v. later (if v then Some b else None) None ≡ (if v then Some b else None)) [ true ↦ refl | false ↦ refl ]
-newest_push (c ∷ bs) b n =
-    ap (later (if c.number == n then Some c else None)) (newest_push bs b n)
-    ∙ elim (b.number == n) as (λ v. later (if c.number == n then Some c else None) (if v then Some b else newest bs n) ≡ (if v then Some b else later (if c.number == n then Some c else None) (newest bs n))) [ true ↦ refl | false ↦ refl ]
-
--- one more body
-pub newest_more : (bs : List Body) (k n : ℕ) (d : Body) → k < length bs → later (newest (take k bs) n) (if (get_or bs k d).number == n then Some (get_or bs k d) else None) ≡ newest (take (k + 1) bs) n
-newest_more bs k n d lt =
-    let b = get_or bs k d in
-    turned (newest (take k bs) n) b n ∙ sym (newest_push (take k bs) b n) ∙ ap (λ xs. newest xs n) (sym (take_next bs k d lt))
-  where
-    turned : (o : Option Body) (b : Body) (m : ℕ) → later o (if b.number == m then Some b else None) ≡ (if b.number == m then Some b else o)
-    turned o b m = elim (b.number == m) as (λ v. later o (if v then Some b else None) ≡ (if v then Some b else o)) [ true ↦ refl | false ↦ refl ]
-
 -- a definition comes into scope
-pub fits_definition : (s t : State) (p : Place) (H : Scope ℕ) (b : Body) (tree : Tree) → Kept s.means t.means → t.bodies ≡ s.bodies ++ b ∷ [] → b.depth ≡ p.depth → Is t.means b.row tree
+pub fits_definition : (s t : State) (p : Place) (H : Scope ℕ) (b : Numbered Body) (tree : Tree) → Kept s.means t.means → t.bodies ≡ s.bodies ++ b ∷ [] → b.value.depth ≡ p.depth → Is t.means b.value.row tree
     → Fits s p H → Fits t p (Definition b.number tree ∷ H)
 fits_definition s t p H b tree k e d h f = record {
   context = k.keeps _ _ f.context;
   depth = f.depth;
-  bodies = λ n. subst (λ o. StandsFor t.means p.depth o (if b.number == n then tree else body_of H n)) (sym (ap (λ bs. newest bs n) e ∙ newest_push s.bodies b n))
-      (elim (b.number == n) as (λ v. StandsFor t.means p.depth (if v then Some b else newest s.bodies n) (if v then tree else body_of H n)) [
+  bodies = λ n. subst (λ o. StandsFor t.means p.depth o (if b.number == n then tree else body_of H n)) (sym (ap (λ bs. newest bs n) e ∙ newest_append s.bodies (b ∷ []) n))
+      (elim (b.number == n) as (λ v. StandsFor t.means p.depth (later (newest s.bodies n) (if v then Some b.value else None)) (if v then tree else body_of H n)) [
         | true ↦ here
         | false ↦ later_on (newest s.bodies n) (body_of H n) (f.bodies n)
       ]);
 }
   where
-    here : Stands t.means p.depth b tree
+    here : Stands t.means p.depth b.value tree
     here = record {
       tree = tree;
       row = h;
       within = omega (arith, d);
-      weakened = let z : p.depth - b.depth ≡ 0 = omega (arith, d) in sym (ap (λ n. apply tree (shift_by n)) z ∙ apply-id tree);
+      weakened = let z : p.depth - b.value.depth ≡ 0 = omega (arith, d) in sym (ap (λ n. apply tree (shift_by n)) z ∙ apply-id tree);
     }
 
     later_on : (o : Option Body) (x : Tree) → StandsFor s.means p.depth o x → StandsFor t.means p.depth o x
@@ -148,7 +133,7 @@ module _ (s t w x z : State) (p : Place) (u : Under) (bs : List Binder) (type bo
     (types_close : (As : List Tree) (B : Tree) → Are x.means u.types.items As → Is x.means ty B → Is z.means closed_ty (nest op.Pi As B))
     (bodies_close : (As : List Tree) (b : Tree) → Are x.means u.types.items As → Is x.means row b → Is z.means closed_row (nest op.Lam As b))
     (claims : z.claims ≡ x.claims ++ claim.Ty p.context closed_ty ∷ claim.Tm p.context closed_row closed_ty ∷ [])
-    (bodies : z.bodies ≡ x.bodies ++ record { number = n; row = closed_row; depth = p.depth } ∷ []) where
+    (bodies : z.bodies ≡ x.bodies ++ record { number = n; value = record { row = closed_row; depth = p.depth } } ∷ []) where
   abbrev made_pair : Tree → Tree × Tree → Tree × Tree
   made_pair A s = (pi A s.0, lam A s.1)
 
@@ -191,11 +176,11 @@ module _ (s t w x z : State) (p : Place) (u : Under) (bs : List Binder) (type bo
   pub definition_spelt : Defines s z p (define n (defined (map binder bs) type (λ G. done G) body))
   definition_spelt = record {
     kept = from_start;
-    bodies = ap (take (length s.bodies)) (bodies ∙ ap (λ xs. xs ++ record { number = n; row = closed_row; depth = p.depth } ∷ []) (third.bodies ∙ second.bodies ∙ first.bodies)) ∙ take_front s.bodies (record { number = n; row = closed_row; depth = p.depth } ∷ []);
+    bodies = ap (take (length s.bodies)) (bodies ∙ ap (λ xs. xs ++ record { number = n; value = record { row = closed_row; depth = p.depth } } ∷ []) (third.bodies ∙ second.bodies ∙ first.bodies)) ∙ take_front s.bodies (record { number = n; value = record { row = closed_row; depth = p.depth } } ∷ []);
     moves = λ H h. moves_then s before z (AreBoth closed_ty closed_row) (λ v G. Fits v p G) (under made_pair (map binder bs) inside H)
         (λ At. states (record { name = n; context = context_of H; type = At.0; body = At.1 }) >>= λ _. done (Definition n At.1 ∷ H)) (kept-same z.means) (wholes H h)
         (λ At r. record {
-          value = fits_definition before z p H (record { number = n; row = closed_row; depth = p.depth }) At.1 (kept-same z.means) bodies refl r.1 (there H h);
+          value = fits_definition before z p H (record { number = n; value = record { row = closed_row; depth = p.depth } }) At.1 (kept-same z.means) bodies refl r.1 (there H h);
           states = record {
             more = claim.Ty p.context closed_ty ∷ claim.Tm p.context closed_row closed_ty ∷ [];
             claims = claims;

@@ -18,7 +18,7 @@ use Rattle.form_rows.specs.Meant.{Is}
 use Rattle.form_rows.proofs.RowLaws.{kept_then, is_kept}
 use Rattle.judgement_rows.specs.declared.places.Place.{Place}
 use Rattle.judgement_rows.specs.declared.bodies.Body.{Body}
-use Rattle.judgement_rows.specs.Bodies.{newest}
+use Rattle.numbered.specs.Newest.{newest}
 use Rattle.judgement_rows.specs.Places.{OpenedIn, NamedIn, FacedIn}
 use Rattle.judgement_rows.specs.Steps.{State, Fits, FitsSome, StandsFor, Claims, Moves, Spells}
 

@@ -11,8 +11,9 @@ use Rattle.codes.specs.Codes.{definitions}
 use Rattle.form_rows.specs.Meant.{Is}
 use Rattle.rows.specs.Views.{IsTree}
 use Rattle.form_rows.proofs.RowLaws.{tree_of_is}
+use Rattle.numbered.specs.declared.numbered.Numbered.{Numbered}
 use Rattle.judgement_rows.specs.declared.bodies.Body.{Body}
-use Rattle.judgement_rows.specs.Bodies.{newest}
+use Rattle.numbered.specs.Newest.{newest}
 use Rattle.judgement_rows.specs.Steps.{State, Fits, Stands, StandsFor}
 use Rattle.judgement_rows.specs.Words.{Defines, block_scope}
 
@@ -29,18 +30,18 @@ module _ (s : State) (ctx : ℕ) (context : s.means ctx ≡ Some (AContext Nil))
 
 -- a definition that is used
 
-pub found_row : {f g : Meanings} {r : ℕ} (depth n : ℕ) (bodies : List Body) (b : Body) (t : Tree) → newest bodies n ≡ Some b → StandsFor f depth (newest bodies n) t
+pub found_row : {f g : Meanings} {r : ℕ} (depth n : ℕ) (bodies : List (Numbered Body)) (b : Body) (t : Tree) → newest bodies n ≡ Some b → StandsFor f depth (newest bodies n) t
     → ((u : Tree) → Is f b.row u → Is g r (apply u (shift_by (depth - b.depth)))) → Is g r t
 found_row {f} {g} {r} depth n bodies b t e h made =
     let s : Stands f depth b t = subst (λ o. StandsFor f depth o t) e h in
     subst (Is g r) (sym s.weakened) (made s.tree s.row)
 
-pub missing_row : {g : Meanings} {r : ℕ} (f : Meanings) (depth n : ℕ) (bodies : List Body) (t : Tree) → newest bodies n ≡ None → StandsFor f depth (newest bodies n) t → Is g r universe → Is g r t
+pub missing_row : {g : Meanings} {r : ℕ} (f : Meanings) (depth n : ℕ) (bodies : List (Numbered Body)) (t : Tree) → newest bodies n ≡ None → StandsFor f depth (newest bodies n) t → Is g r universe → Is g r t
 missing_row {g} {r} f depth n bodies t e h made =
     let s : t ≡ universe = subst (λ o. StandsFor f depth o t) e h in
     subst (Is g r) (sym s) made
 
-pub found_tree : (f : Meanings) (t : Tree) (depth n : ℕ) (bodies : List Body) (b : Body) → newest bodies n ≡ Some b → StandsFor f depth (newest bodies n) t → IsTree (f b.row)
+pub found_tree : (f : Meanings) (t : Tree) (depth n : ℕ) (bodies : List (Numbered Body)) (b : Body) → newest bodies n ≡ Some b → StandsFor f depth (newest bodies n) t → IsTree (f b.row)
 found_tree f t depth n bodies b e h =
     let s : Stands f depth b t = subst (λ o. StandsFor f depth o t) e h in
     tree_of_is f b.row s.row

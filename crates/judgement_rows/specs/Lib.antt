@@ -1,4 +1,3 @@
-pub mod Bodies
 pub mod Forms
 pub mod Places
 pub mod Steps

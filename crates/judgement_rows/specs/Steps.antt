@@ -12,14 +12,15 @@ use Rattle.translation.specs.Forms.{Means}
 use Rattle.codes.specs.Codes.{body_of}
 use Rattle.form_rows.specs.Meant.{Is}
 use Rattle.judgement_rows.specs.declared.places.Place.{Place}
+use Rattle.numbered.specs.declared.numbered.Numbered.{Numbered}
 use Rattle.judgement_rows.specs.declared.bodies.Body.{Body}
 use Rattle.judgement_rows.specs.declared.terms.Spelling.{Spelling}
-use Rattle.judgement_rows.specs.Bodies.{newest}
+use Rattle.numbered.specs.Newest.{newest}
 
 -- what rows mean, the bodies in scope and the claims so far
 pub record State : Type 0 where
   pub means : Meanings
-  pub bodies : List Body
+  pub bodies : List (Numbered Body)
   pub claims : List Claim
 
 abbrev pub state : Meanings → Spelling → State

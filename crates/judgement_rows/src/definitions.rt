@@ -15,6 +15,7 @@ use crate::places::Place;
 use crate::terms::Spelling;
 use codes::CodeDef;
 use form_rows::{lifted, nested};
+use numbered::Numbered;
 use rows::Maker;
 use std::alloc::{AllocError, Global};
 use trees::{Claim, Op};
@@ -81,10 +82,12 @@ impl Spelling {
         let row = nested(maker, Op::Lam, &under.types, body)?;
         self.claims.push(Claim::Ty(place.context, ty))?;
         self.claims.push(Claim::Tm(place.context, row, ty))?;
-        self.bodies.push(Body {
+        self.bodies.push(Numbered {
             number: def.number,
-            row,
-            depth: place.depth,
+            value: Body {
+                row,
+                depth: place.depth,
+            },
         })?;
         Ok(())
     }

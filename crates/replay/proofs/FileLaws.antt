@@ -1,10 +1,9 @@
 -- Files whose first rows are right.
-use Rattle.std.proofs.Common.{◌≡◌, ℕ, zero, suc, ◌+◌, ◌<◌, ◌≤◌, List, [], ◌∷◌, ◌++◌, length, take, refl, sym, ◌∙◌, ap, ap₂, cond, subst, arith, append_assoc, length-append, Some}
+use Rattle.std.proofs.Common.{◌≡◌, ℕ, ◌+◌, ◌<◌, ◌≤◌, List, [], ◌∷◌, ◌++◌, length, take, refl, sym, ◌∙◌, ap, subst, arith, append_assoc, length-append}
 use Rattle.std.specs.Option.{option_to_list}
 use Rattle.std.specs.Io.BufRead.{drop_through}
 use Rattle.std.proofs.lemmas.List.{take-append-le, append-nil}
 use Rattle.std.proofs.Math.Seq.{take-append-add, take-length}
-use Rattle.trees.specs.Judgements.{Judgement}
 use Rattle.deriv_file.specs.declared.row.Row.{Row}
 use Rattle.deriv_file.specs.declared.row.Row.TheVariants.{Header, Var, Make, Instance, Shift}
 use Rattle.deriv_file.specs.declared.row.Row.TheVariants.{Push, CtxNil, CtxVar, CtxName}
@@ -27,7 +26,7 @@ use Rattle.replay.specs.declared.judged_rows.Rows.{Rows}
 use Rattle.derivation.specs.Meanings.{Meaning, conclusion_at}
 use Rattle.derivation.proofs.UniqueLaws.{rows_one}
 use Rattle.derivation.proofs.PrefixLaws.{rows_parts, rows_whole, begins_take}
-use Rattle.derivation.specs.Right.{RightRow, RightRows, Begins, AllRight, FirstBad, Derives, root_of, roots_of}
+use Rattle.derivation.specs.Right.{RightRow, RightRows, Begins, AllRight, FirstBad, Derives, roots_of}
 
 right_push : (before : List Meaning) (rows : List Row) (all : List Meaning) (row : Row) (m : Meaning) → RightRows before rows all → RightRow all row m → RightRows before (rows ++ row ∷ []) (all ++ m ∷ [])
 right_push before rows all row m right next = rows_whole before rows (row ∷ []) all (all ++ m ∷ []) right (m, next, refl)

@@ -1,5 +1,5 @@
 -- The roots of a file by the nodes that they name.
-use Rattle.std.proofs.Common.{◌≡◌, ℕ, zero, suc, ◌<◌, List, [], ◌∷◌, ◌++◌, length, refl, sym, ◌∙◌, ap, arith, Option, Some, None, IsSome, Bool, true, false}
+use Rattle.std.proofs.Common.{◌≡◌, ℕ, zero, suc, List, [], ◌∷◌, ◌++◌, length, refl, ◌∙◌, ap, Option, Some, None, IsSome, Bool, true, false}
 use Rattle.std.specs.Prelude.{if◌then◌else◌, slice_get, is_some, option_and_then}
 use Rattle.std.specs.List.{list_all, flat_map}
 use Rattle.std.specs.Option.{option_to_list}
@@ -7,7 +7,6 @@ use Rattle.std.proofs.lemmas.List.Sums.{AllPass-from_list_all}
 use Rattle.std.proofs.lemmas.Option.{slice_get_within, get_or_from_slice_get}
 use Rattle.trees.specs.Judgements.{Judgement, Nil}
 use Rattle.trees.specs.Language.{Ctx}
-use Rattle.deriv_file.specs.declared.row.Row.{Row}
 use Rattle.deriv_file.specs.declared.row.Row.TheVariants.{Root}
 use Rattle.derivation.specs.Meanings.{Meaning, conclusion_at}
 use Rattle.derivation.specs.Right.{RightRow}

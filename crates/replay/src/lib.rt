@@ -13,6 +13,7 @@ mod filed;
 mod filed_rows;
 mod judged_rows;
 mod judging;
+mod known_rows;
 mod named;
 mod node;
 mod number;

@@ -10,6 +10,7 @@ ghost use Rattle.replay.specs.Sides.{Keeps};
 
 use crate::filed::Filed;
 use crate::filed_rows::FiledRows;
+use crate::known_rows::KnownRows;
 use crate::node::node_claim;
 use crate::thing::thing_row;
 use compare::Comparison;
@@ -83,6 +84,7 @@ pub struct RowJudge {
     sides: SideConditions,
     store: RowStore,
     filed: FiledRows,
+    known: KnownRows,
     ghost all_filed: { AllFiled (things store) filed },
     ghost all_fit: { AllFit (file_meanings (things store) filed) },
 }
@@ -107,6 +109,7 @@ impl RowJudge {
             sides: SideConditions::new(),
             store: RowStore::new(alloc),
             filed: FiledRows::new(alloc),
+            known: KnownRows::new(alloc),
         }
     }
 
@@ -158,8 +161,27 @@ impl RowJudge {
         }
     }
 
-    /// Makes a row that fits, over the rows of the store.
+    /// A row that fits, over the rows of the store: one of the file or one that was made before,
+    /// where it is known that one reads so, else a new one.
     pub fn make(&mut self, row: rows::Row<'_>) -> Result<u64, AllocError>
+        requires { IsFit (store_means self.old.store) row }
+        ensures kept { Kept (store_means self.old.store) (store_means self.new.store) }
+        ensures meaning { IfOk result (λ at. store_means self.new.store at ≡
+            row_meaning (store_means self.old.store) row.entry) }
+        ensures meant { meant_by self.new ≡ meant_by self.old }
+    {
+        self.known.look(&self.store, &self.filed)?;
+        match self.known.find(&self.store, row) {
+            Some(at) => Ok(at),
+            None => {
+                self.known.keep(row, self.store.len() as u64)?;
+                Ok(self.make_new(row)?)
+            }
+        }
+    }
+
+    /// A new row.
+    fn make_new(&mut self, row: rows::Row<'_>) -> Result<u64, AllocError>
         requires { IsFit (store_means self.old.store) row }
         ensures kept { Kept (store_means self.old.store) (store_means self.new.store) }
         ensures meaning { IfOk result (λ at. store_means self.new.store at ≡

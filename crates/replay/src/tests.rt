@@ -1,10 +1,10 @@
 //! Files whose rows are right, and files with a row that is not.
 
 use crate::{Judged, Verdict, judge};
-use rows::{CtxId, CtxRow, Row};
+use rows::{CtxId, CtxRow, Row, TermRow};
 use std::alloc::{AllocError, Global};
 use std::test::Fail;
-use theory::Claim;
+use theory::{Claim, Op};
 
 // Nat is a type, and the successor of the successor of zero is one of its terms.
 const TWO: [&str; 13] = [
@@ -303,5 +303,19 @@ fn roots_are_compared_with_claims(rt: HostRuntime) -> Result<(), Fail> {
     assert!(rt; rows.same_claim(context, Claim::Ctx(nil))?);
     assert!(rt; !rows.same_claim(context, number)?);
     assert!(rt; !rows.fits(&Row::Context(CtxRow::Name(CtxId(7)))));
+    Ok(())
+}
+
+#[test]
+fn rows_of_the_file_are_found(rt: HostRuntime) -> Result<(), Fail> {
+    let bytes = b"rules 1\nc nil\nn ctx.nil\nn nat.u 1 2\nt nat\nn ty.u 1 4 3\nr 5\n".as_slice();
+    let mut rows = judge(rt.alloc(), bytes)?.rows;
+    let nil = rows.add(Row::Context(CtxRow::Nil))?;
+    let nat = rows.add(Row::Term(TermRow::Make(Op::Nat, &[])))?;
+    let zero = rows.add(Row::Term(TermRow::Make(Op::Zero, &[])))?;
+    assert!(rt; rows.root_count() == 1);
+    assert_eq!(rt; rows.root_claim(0), Claim::Ty(nil, nat));
+    assert!(rt; zero != nat);
+    assert_eq!(rt; rows.add(Row::Term(TermRow::Make(Op::Zero, &[])))?, zero);
     Ok(())
 }

@@ -1,6 +1,6 @@
 -- Types and terms by their nodes. A type of H stands at home in another context, under a
 -- substitution from H.
-use Rattle.std.specs.Prelude.{◌≡◌, Some}
+use Rattle.std.specs.Prelude.{◌≡◌, Option, Some, None}
 use Rattle.trees.specs.Trees.{Tree, Subst, apply}
 use Rattle.trees.specs.Judgements.{Context, WithVar, WithName, Judgement, trees}
 use Rattle.trees.specs.Language.{Ty, Tm, Sb}
@@ -16,6 +16,12 @@ use Rattle.typed_nodes.specs.declared.types.Line.{Line}
 
 abbrev pub Says : Contents → NodeId → Judgement → Type 0
 Says b n J = book_concludes b n.0 ≡ Some J
+
+-- A of `G >> A`, and a of `G >> a : A`
+abbrev pub subject_of : Judgement → Option Tree
+subject_of (Ty G A) = Some A
+subject_of (Tm G a A) = Some a
+subject_of _ = None
 
 -- `H >> A`
 pub record IsTypeAt (b : Contents) (ty : TypeAt) (H : Context) (A : Tree) : Type 0 where

@@ -1,0 +1,18 @@
+-- Types of either sort, by their nodes.
+use Rattle.std.proofs.Common.{◌≡◌, sym, subst}
+use Rattle.trees.specs.Trees.{Tree}
+use Rattle.trees.specs.Judgements.{Context}
+use Rattle.book.specs.Contents.{Contents}
+use Rattle.book.specs.declared.kernel.NodeId.{NodeId}
+use Rattle.typed_nodes.specs.Typed.{Says}
+use Rattle.bidirect.specs.Outcomes.{formed, former_of}
+use Rattle.bidirect.specs.declared.tasks.Sort.{Sort}
+use Rattle.bidirect.specs.declared.tasks.Former.{Former}
+
+-- the sorts are one
+pub of_one_sort : (b : Contents) (node : NodeId) (H : Context) (A : Tree) (s r : Sort) → s ≡ r → Says b node (formed s H A) → Says b node (formed r H A)
+of_one_sort b node H A s r e says = subst (λ s. Says b node (formed s H A)) e says
+
+pub of_one_form : (b : Contents) (node : NodeId) (H : Context) (A B : Tree) (s r : Sort) (f g : Former) → s ≡ r → f ≡ g → Says b node (formed r H (former_of g A B)) → Says b node (formed s H (former_of f A B))
+of_one_form b node H A B s r f g e d says =
+    subst (λ s. Says b node (formed s H (former_of f A B))) (sym e) (subst (λ f. Says b node (formed r H (former_of f A B))) (sym d) says)

@@ -1,0 +1,9 @@
+pub mod FormLaws
+pub mod GrowthLaws
+pub mod JoinLaws
+pub mod LiteralLaws
+pub mod RuleLaws
+pub mod StepLaws
+pub mod WaitLaws
+pub mod WayLaws
+pub mod WeightLaws

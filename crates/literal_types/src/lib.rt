@@ -1,0 +1,30 @@
+//! What a type literally is, whatever instances and conversions spell it: found by following the
+//! rules that made its node. Nothing is evaluated.
+//!
+//! ```text
+//! // ty : H >> A, made by ty.sub of d : H to G and of the node of G >> pi B C
+//! let found = literal(alloc, book, TypeAt { ty, sub })?;
+//! // Literal::Pi, of the nodes of B and C, and of d after the substitution of the type
+//! ```
+#![tactic(auto)]
+
+/// The rows of a table, each on a line of its own however long.
+macro_rules! table {
+    ($($row:expr,)*) => { &[$($row),*] };
+}
+
+mod entries;
+mod face_calls;
+mod forms;
+mod found;
+mod joined;
+mod openings;
+mod past_face;
+mod sources;
+mod substitutions;
+mod waiting;
+mod ways;
+mod with_face;
+
+pub use forms::Literal;
+pub use found::literal;

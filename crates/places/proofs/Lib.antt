@@ -1,0 +1,7 @@
+pub mod ContextLaws
+pub mod GrowthLaws
+pub mod LevelLaws
+pub mod PlaceLaws
+pub mod UnderLaws
+pub mod VariableLaws
+pub mod NameLaws

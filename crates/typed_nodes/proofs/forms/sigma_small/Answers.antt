@@ -1,0 +1,39 @@
+use Rattle.std.proofs.Common.{[], ◌∷◌, refl}
+use Rattle.std.proofs.lemmas.List.Elements.{All-nil}
+use Rattle.trees.specs.Judgements.{Context, WithVar, trees}
+use Rattle.trees.specs.Trees.{Tree}
+use Rattle.trees.specs.Language.{Tm}
+use Rattle.trees.specs.Things.{ATree, AContext}
+use Rattle.conditions.specs.Sides.{SideHolds}
+use Rattle.recipes.specs.Derivations.{StatesAt}
+use Rattle.rules.specs.Table.{universe}
+use Rattle.book.specs.Contents.{Contents}
+use Rattle.book.specs.declared.kernel.NodeId.{NodeId}
+use Rattle.typing_rules.specs.Types.{sig_small, sig_small_statement}
+use Rattle.typed_nodes.specs.Calls.{MayCall}
+use Rattle.typed_nodes.specs.Typed.{Says}
+use Rattle.typed_nodes.proofs.StandLaws.{may_call, given}
+use Rattle.typed_nodes.proofs.forms.sigma_small.Goals as goal
+
+call : (book : Contents) (domain codomain : NodeId) (H : Context) (A B : Tree)
+    → StatesAt sig_small_statement (AContext H ∷ ATree A ∷ ATree B ∷ []) (sig_small trees H A B)
+    → Says book domain (Tm H A (universe trees)) → Says book codomain (Tm (WithVar H A) B (universe trees))
+    → MayCall sig_small_statement book [] (domain.0 ∷ codomain.0 ∷ []) (AContext H ∷ ATree A ∷ ATree B ∷ [])
+call book domain codomain H A B states is_domain is_codomain =
+    may_call sig_small_statement book [] (domain.0 ∷ codomain.0 ∷ [])
+    (AContext H ∷ ATree A ∷ ATree B ∷ []) (sig_small trees H A B)
+    states refl tt (All-nil SideHolds) refl
+    (is_domain, (is_codomain, tt))
+
+pub derive-requires-clause-may : goal.derive-requires-clause-may
+derive-requires-clause-may c =
+    let (H, A, B, is_domain, is_codomain) = c.requires in
+    let states = c.types_at_trees.ensures.sig_small H A B in
+    (sig_small_statement, AContext H ∷ ATree A ∷ ATree B ∷ [], record { derives = c.types_are_derived.ensures.sig_small; first = refl }, call c.args.book.now c.args.domain c.args.codomain H A B states is_domain is_codomain)
+
+pub returns-clause-typed : goal.returns-clause-typed
+returns-clause-typed c = λ H A B is_domain is_codomain.
+    let states = c.types_at_trees.ensures.sig_small H A B in
+    let said = given c.derive.new.book (c.in_ok-derive.field-0.0 ∷ []) (c.in_ok-derive.ensures.gives sig_small_statement (record { derives = c.types_are_derived.ensures.sig_small; first = refl }))
+    (call c.args.book.now c.args.domain c.args.codomain H A B states is_domain is_codomain) states in
+    said.0

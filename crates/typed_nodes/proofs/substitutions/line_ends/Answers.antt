@@ -1,0 +1,37 @@
+use Rattle.std.proofs.Common.{[], ◌∷◌, refl}
+use Rattle.std.proofs.lemmas.List.Elements.{All-nil}
+use Rattle.trees.specs.Judgements.{Context, trees}
+use Rattle.trees.specs.Language.{Ctx}
+use Rattle.trees.specs.Things.{AContext}
+use Rattle.conditions.specs.Sides.{SideHolds}
+use Rattle.recipes.specs.Derivations.{StatesAt}
+use Rattle.book.specs.Contents.{Contents}
+use Rattle.book.specs.declared.kernel.NodeId.{NodeId}
+use Rattle.typing_rules.specs.Places.{line_ends, line_ends_statement}
+use Rattle.typed_nodes.specs.Calls.{MayCall}
+use Rattle.typed_nodes.specs.Typed.{Says}
+use Rattle.typed_nodes.proofs.StandLaws.{may_call, given}
+use Rattle.typed_nodes.proofs.substitutions.line_ends.Goals as goal
+
+call : (book : Contents) (ctx : NodeId) (H : Context)
+    → StatesAt line_ends_statement (AContext H ∷ []) (line_ends trees H)
+    → Says book ctx (Ctx H)
+    → MayCall line_ends_statement book [] (ctx.0 ∷ []) (AContext H ∷ [])
+call book ctx H states is_ctx =
+    may_call line_ends_statement book [] (ctx.0 ∷ [])
+    (AContext H ∷ []) (line_ends trees H)
+    states refl tt (All-nil SideHolds) refl
+    (is_ctx, tt)
+
+pub derive_two-requires-clause-may : goal.derive_two-requires-clause-may
+derive_two-requires-clause-may c =
+    let (H, is_ctx) = c.requires in
+    let states = c.places_at_trees.ensures.line_ends H in
+    (line_ends_statement, AContext H ∷ [], record { derives = c.places_are_derived.ensures.line_ends; first = refl }, call c.args.book.now c.args.ctx H states is_ctx)
+
+pub returns-clause-typed : goal.returns-clause-typed
+returns-clause-typed c = λ H is_ctx.
+    let states = c.places_at_trees.ensures.line_ends H in
+    let said = given c.derive_two.new.book (c.in_ok-start.start.0 ∷ c.in_ok-start.end.0 ∷ []) (c.in_ok-start.ensures.gives line_ends_statement (record { derives = c.places_are_derived.ensures.line_ends; first = refl }))
+    (call c.args.book.now c.args.ctx H states is_ctx) states in
+    (said.0, said.1.0)
