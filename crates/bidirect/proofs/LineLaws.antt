@@ -133,7 +133,6 @@ compared found p = where_true p found
 pub pi_row : (m : Meanings) (k l : ℕ) (A B : Tree) → m k ≡ Some (ATree A) → m l ≡ Some (ATree B) → option_and_then (made op.Pi) (meanings m (k ∷ l ∷ [])) ≡ Some (ATree (pi A B))
 pi_row m k l A B e f = ap₂ (λ x y. option_and_then (made op.Pi) (both consed x (both consed y (Some [])))) e f
 
-
 -- the substitution of a literal type of paths
 pub path_starts : (b : Contents) (found : Literal) (l : Line) (H : Context) (A : Tree) → found ≡ literal.Path l → IsLiteral b found H A → (K G : Context) × (e : Subst) × Says b l.sub (Sb K e G)
 path_starts b found l H A own spells =

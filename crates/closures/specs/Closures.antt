@@ -111,10 +111,18 @@ IsPassed (Some (ASubst d)) lift index None =
     (index < lift + count_of d.pushed) ⊎ (2 ^ 64 ≤ count_of d.pushed)
 IsPassed _ lift index past = ⊥
 
--- the substitution of a row waits before others; nothing need wait where it is the identity
+-- a shift waits before others: none, or alone, or together with one that is the first of them
+pub data ShiftWaits (shift : ℕ) (ws longer : List Waiting) : Type 0 where
+  Nothing : shift ≡ 0 → longer ≡ ws → ShiftWaits shift ws longer
+  First : longer ≡ waiting 0 (Raised shift) ∷ ws → ShiftWaits shift ws longer
+  Added : (by : ℕ) (rest : List Waiting) → ws ≡ waiting 0 (Raised by) ∷ rest
+      → longer ≡ waiting 0 (Raised (shift + by)) ∷ rest → ShiftWaits shift ws longer
+
+-- the substitution of a row waits before others, as a shift if it is one
 abbrev pub WaitsBefore : Option Thing → SubId → List Waiting → List Waiting → Type 0
 WaitsBefore o row ws longer =
-    (longer ≡ waiting 0 (Under row) ∷ ws) ⊎ ((o ≡ Some (ASubst id)) × (longer ≡ ws))
+    (longer ≡ waiting 0 (Under row) ∷ ws)
+    ⊎ ((shift : ℕ) × (o ≡ Some (ASubst (shift_by shift))) × ShiftWaits shift ws longer)
 
 -- the index grew by one shift at most
 abbrev pub IsNear : ℕ → Entered → Type 0

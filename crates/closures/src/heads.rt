@@ -8,7 +8,7 @@ ghost use Rattle.closures.specs.Shown.{lists};
 ghost use Rattle.closures.specs.Environments.{deepest, listed, deepened, IsWithin};
 ghost use Rattle.rows.specs.Views.{IsSubst};
 ghost use Rattle.closures.specs.Closures.{IsClosure, HeadStands, closure_meaning, head_meaning};
-ghost use Rattle.closures.specs.Closures.{WaitsBefore};
+ghost use Rattle.closures.specs.Closures.{ShiftWaits, WaitsBefore};
 
 use crate::closure::Closure;
 use crate::environments::{Delayed, Environment, Environments};
@@ -26,8 +26,36 @@ pub enum Head<'a> {
     Make(Op, &'a [u64], Environment),
 }
 
-/// The environment where the substitution of a row waits before others. For the identity it is
-/// theirs, so that a tree under it opens to what the tree opens to.
+/// The environment where a shift waits before others, with which it is one if a shift is the first
+/// of them.
+fn shifted(
+    environments: &mut Environments,
+    shift: u64,
+    rest: Environment,
+) -> Result<Environment, AllocError>
+    requires within { IsWithin (lists environments.old) rest }
+    ensures grows { Grows (lists environments.old) (lists environments.new) }
+    ensures list { IfOk result (λ env. ShiftWaits shift
+        (listed (lists environments.old) rest) (listed (lists environments.new) env)) }
+    ensures within { IfOk result (λ env. IsWithin (lists environments.new) env) }
+{
+    if shift == 0 {
+        return Ok(rest);
+    }
+    if let Environment::Node(at, 0) = rest {
+        let node = environments.node(at);
+        if let Delayed::Raised(by) = node.delayed {
+            if let Some(both) = shift.checked_add(by) {
+                return Ok(environments.push(Delayed::Raised(both), node.rest)?);
+            }
+        }
+    }
+    Ok(environments.push(Delayed::Raised(shift), rest)?)
+}
+
+/// The environment where the substitution of a row waits before others. Shifts are added up, and
+/// for the identity it is theirs: so a tree has one environment under one shift, however it came
+/// to be under it.
 fn before<R: Reader>(
     rows: &R,
     environments: &mut Environments,
@@ -44,8 +72,8 @@ fn before<R: Reader>(
     match rows.size(subst) {
         SubSize {
             pushed: Some(0),
-            shift: 0,
-        } => Ok(rest),
+            shift,
+        } => Ok(shifted(environments, shift, rest)?),
         _ => Ok(environments.push(Delayed::Under(subst), rest)?),
     }
 }

@@ -2,3 +2,4 @@ pub mod HeadLaws
 pub mod CodingLaws
 pub mod CodedLaws
 pub mod NameLaws
+pub mod WeakeningLaws

@@ -52,3 +52,22 @@ fn substitutions_are_read_with_their_sizes(rt: HostRuntime) -> Result<(), Fail> 
     assert!(rt; matches!(rows.subst(SubId(push)), SubRow::Push(SubId(1), TermId(0))));
     Ok(())
 }
+
+#[test]
+fn what_is_weakened_has_one_row(rt: HostRuntime) -> Result<(), Fail> {
+    let mut rows = InternedRows::new(rt.alloc())?;
+    let zero = rows.make(Op::Zero, &[])?;
+    let suc = rows.make(Op::Suc, &[zero])?;
+    let var = rows.var(2)?;
+    let (none, one, two) = (rows.shift(0)?, rows.shift(1)?, rows.shift(2)?);
+    assert_eq!(rt; rows.then(one, one)?, two);
+    assert_eq!(rt; rows.instance(var, two)?, rows.var(4)?);
+    assert_eq!(rt; rows.instance(suc, none)?, suc);
+    let pushed = rows.push(none, zero)?;
+    assert_eq!(rt; rows.then(two, pushed)?, one);
+    assert_eq!(rt; rows.instance(var, pushed)?, rows.var(1)?);
+    let weakened = rows.instance(suc, one)?;
+    assert_eq!(rt; rows.instance(weakened, pushed)?, suc);
+    assert!(rt; rows.instance(suc, pushed)? > weakened);
+    Ok(())
+}
