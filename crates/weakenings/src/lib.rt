@@ -13,3 +13,6 @@
 mod weakened;
 
 pub use weakened::{passed, shift_of_both, undone};
+
+#[cfg(test)]
+mod tests;

@@ -1,6 +1,6 @@
-use Rattle.std.proofs.Common.{◌≡◌, ◌∙◌, ap, subst, Some}
+use Rattle.std.proofs.Common.{◌≡◌, subst, Some}
 use Rattle.trees.specs.Trees.{shift_by}
-use Rattle.trees.specs.Things.{ASubst}
+use Rattle.trees.specs.Things.{ASubst, both, then_of}
 use Rattle.weakenings.proofs.WeakeningLaws.{IsSized, sized, under_identity, undoes}
 use Rattle.weakenings.proofs.weakened.undone.Goals as goal
 
@@ -16,4 +16,4 @@ pub returns-in-Some-eq0 : goal.returns-in-Some-eq0
 returns-in-Some-eq0 g c =
     let f = g.R.Rows.means c.args.rows.now in
     undoes (f c.in-Instance.tree.0) (f c.in-Instance.first.0) (f c.args.term.0) (f c.args.sub.0) c.in-Instance.ensures.meaning c.requires
-    (c.in-Some-eq0.ensures.both ∙ ap (λ n. Some (ASubst (shift_by n))) c.in-Some-eq0.field-0-test)
+    (subst (λ n. both then_of (f c.in-Instance.first.0) (f c.args.sub.0) ≡ Some (ASubst (shift_by n))) c.in-Some-eq0.field-0-test c.in-Some-eq0.ensures.both)
