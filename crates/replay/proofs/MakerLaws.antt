@@ -1,5 +1,5 @@
 -- What rows mean that others are made of.
-use Rattle.std.proofs.Common.{◌≤◌, ℕ, refl, Option, Some, None}
+use Rattle.std.proofs.Common.{ℕ, refl, Option, Some, None}
 use Rattle.trees.specs.Things.{Thing, ATree, ASubst, AContext}
 use Rattle.rows.specs.Views.{IsSubst, ShiftAtMost}
 

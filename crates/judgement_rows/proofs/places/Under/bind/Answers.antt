@@ -1,4 +1,3 @@
-use Rattle.std.proofs.Common.{arith}
 use Rattle.form_rows.proofs.RowLaws.{is_of, tree_of_is}
 use Rattle.judgement_rows.proofs.PlaceLaws.{binding_none, binding_more, binding_tree}
 use Rattle.judgement_rows.proofs.places.Under.bind.Goals as goal
