@@ -29,9 +29,7 @@ pub struct InternedRows {
 impl InternedRows {
     ghost use Rattle.std.specs.Prelude.{◌≡◌, ◌<◌, ◌≤◌, ◌+◌, ◌^◌, [], length, take, IfOk, OnOk};
     ghost use Rattle.std.specs.Prelude.{OnErr};
-    ghost use Rattle.std.specs.Prelude.{IfSome, IsOk, IsSome, slice_get, Some};
-    ghost use Rattle.trees.specs.Trees.{Var, shift_by};
-    ghost use Rattle.trees.specs.Things.{ASubst, ATree, both, instance_of, then_of};
+    ghost use Rattle.std.specs.Prelude.{IsOk, IsSome, slice_get, Some};
     ghost use Rattle.std.specs.List.{All};
     ghost use Rattle.trees.specs.Things.{Meanings, Kept};
     ghost use Rattle.rows.specs.Views.{IsSubst, term_meaning, sub_meaning, ctx_meaning};
