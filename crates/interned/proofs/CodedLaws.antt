@@ -1,17 +1,16 @@
 -- Rows of words: what one that stands there means, what one more adds, and the first of them.
-use Rattle.std.proofs.Common.{◌≡◌, ℕ, zero, suc, ◌+◌, ◌<◌, ◌≤◌, ◌⊎◌, inl, inr, List, [], ◌∷◌, ◌++◌, length, take, drop, refl, sym, ◌∙◌, ap, subst, arith, Some, IsSome, Result, Ok, Err}
+use Rattle.std.proofs.Common.{◌≡◌, ℕ, zero, suc, ◌<◌, ◌≤◌, inl, inr, List, [], ◌∷◌, ◌++◌, length, take, drop, refl, sym, ◌∙◌, ap, subst, arith, Some, IsSome, Result, Ok, Err}
 use Rattle.std.specs.Prelude.{slice_get, unwrap_or}
-use Rattle.std.specs.List.{All, Contains}
+use Rattle.std.specs.List.{All}
 use Rattle.std.specs.Result.{OnOk, OnErr}
-use Rattle.std.proofs.lemmas.Option.{slice_get_within}
 use Rattle.std.proofs.lemmas.List.{take-append-le, take_all, take-append-drop, take-take}
 use Rattle.std.proofs.lemmas.List.Elements.{All-weaker}
 use Rattle.trees.specs.Judgements.{Nil}
-use Rattle.trees.specs.Things.{Thing, ASubst, AContext, Kept}
+use Rattle.trees.specs.Things.{Thing, AContext, Kept}
 use Rattle.trees.proofs.Meanings.{kept-same}
 use Rattle.region.specs.Held.{IsInterned}
 use Rattle.rows.specs.Tables.{built_after, built}
-use Rattle.rows.proofs.TableLaws.{After, after, built-at, built-push, length-built, slice_get-take, slice_get-push, slice_get-prefix, slice_get-next, slice_get-same, take-prefix}
+use Rattle.rows.proofs.TableLaws.{after, built-at, built-push, length-built, slice_get-take, slice_get-push, slice_get-prefix, slice_get-next, slice_get-same, take-prefix}
 use Rattle.rows.proofs.MeaningLaws.{is_some-value, Mean}
 use Rattle.interned.specs.Coding.{thing_coded}
 use Rattle.interned.specs.Coded.{thing_of, things_coded, IsSized, AreCoded, IsRowAt}

@@ -1,24 +1,19 @@
 -- What coded rows mean: it stays as rows come in, and it is what the row says from which the words were made.
-use Rattle.std.proofs.Common.{◌≡◌, ℕ, zero, suc, ◌+◌, ◌*◌, ◌^◌, ◌<◌, ◌≤◌, nat_lt, nat_le, Bool, true, false, cond, List, [], ◌∷◌, length, refl, sym, ◌∙◌, ap, arith, Option, Some, None, IsSome}
-use Rattle.std.specs.Prelude.{slice_get, option_and_then}
+use Rattle.std.proofs.Common.{◌≡◌, ℕ, List, [], ◌∷◌, refl, ◌∙◌, ap, Some}
+use Rattle.std.specs.Prelude.{option_and_then}
 use Rattle.std.specs.List.{All}
-use Rattle.std.proofs.lemmas.Bool.Decides.{nat_tests}
-use Rattle.std.proofs.lemmas.List.Elements.{All-nil, All-cons}
-use Rattle.trees.specs.declared.kind.PartKind.{PartKind}
+use Rattle.std.proofs.lemmas.List.Elements.{All-nil}
 use Rattle.trees.specs.declared.kind.PartKind.TheVariants as part
 use Rattle.trees.specs.declared.op.Op.{Op}
-use Rattle.trees.specs.Trees.{Var, shift_by, greatest_shift}
-use Rattle.trees.specs.Judgements.{Nil}
-use Rattle.trees.specs.Things.{Thing, ATree, ASubst, AContext, Meanings, Kept, kind_of, made, meanings, over_kids, only_trees, instance_of, pushed_on, then_of, with_variable, with_a_name, with_a_face}
+use Rattle.trees.specs.Things.{Thing, Meanings, Kept, kind_of, made, meanings, over_kids, only_trees, instance_of, pushed_on, then_of, with_variable, with_a_name, with_a_face}
 use Rattle.trees.proofs.Meanings.{meanings-kept}
-use Rattle.rows.specs.Views.{term_meaning, sub_meaning, ctx_meaning, term_names, sub_names, ctx_names}
+use Rattle.rows.specs.Views.{term_meaning, ctx_meaning, term_names}
 use Rattle.rows.specs.declared.views.TermRow.{TermRow}
 use Rattle.rows.specs.declared.views.TermRow.TheVariants as term
-use Rattle.rows.specs.declared.views.SubRow.{SubRow}
 use Rattle.rows.specs.declared.views.CtxRow.{CtxRow}
 use Rattle.rows.specs.declared.views.CtxRow.TheVariants as ctx
 use Rattle.rows.proofs.OptionLaws.{one-some}
-use Rattle.rows.proofs.MeaningLaws.{Mean, both-kept, one-kept, meanings-mean, both-mean, sub_names-mean, kind-same, both-kind, over_kids-kind, instance_of-kind, pushed_on-kind, then_of-kind, with_variable-kind, with_a_name-kind, with_a_face-kind}
+use Rattle.rows.proofs.MeaningLaws.{Mean, both-kept, one-kept, meanings-mean, both-mean, kind-same, both-kind, over_kids-kind, instance_of-kind, with_variable-kind, with_a_name-kind, with_a_face-kind}
 use Rattle.interned.specs.declared.heads.Head.{Head}
 use Rattle.interned.specs.declared.heads.Head.TheVariants as head
 use Rattle.interned.specs.Heads.{head_coded, IsHeaded}

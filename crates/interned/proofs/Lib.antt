@@ -2,4 +2,3 @@ pub mod HeadLaws
 pub mod CodingLaws
 pub mod CodedLaws
 pub mod NameLaws
-pub mod WeakeningLaws

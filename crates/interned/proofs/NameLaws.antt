@@ -1,5 +1,5 @@
 -- The rows that a row names mean something where the row does.
-use Rattle.std.proofs.Common.{◌≡◌, ℕ, List, [], ◌∷◌, Some}
+use Rattle.std.proofs.Common.{◌≡◌, [], Some}
 use Rattle.std.specs.List.{All}
 use Rattle.std.proofs.lemmas.List.Elements.{All-nil, All-cons}
 use Rattle.trees.specs.Things.{Thing, Meanings, with_variable, with_a_name, with_a_face}

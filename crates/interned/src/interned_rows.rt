@@ -1,6 +1,5 @@
 //! Interned rows.
 
-ghost use Rattle.std.specs.Prelude.{◌≡◌, ◌≤◌, ◌+◌, ◌-◌, IfSome};
 ghost use Rattle.interned.specs.Coded.{AreCoded};
 
 use crate::coding::{coded_row, ctx_words, sub_size, sub_words, term_words};
@@ -11,21 +10,10 @@ use rows::{
 };
 use std::alloc::{AllocError, Global};
 use trees::Op;
+use weakenings::{passed, shift_of_both, undone};
 
 /// The most words of a row of a tree, a substitution or a context.
 const MOST_ROW_WORDS: u64 = 8;
-
-/// The greatest shift of a row.
-const GREATEST_SHIFT: u64 = 1 << 62;
-
-/// What an index or a shift comes to that is past all the trees that are pushed on a shift.
-fn past(at: u64, pushed: u64, shift: u64) -> Option<u64>
-    ensures { IfSome result (λ by. (pushed ≤ at) × (by ≡ at - pushed + shift)) }
-{
-    let left = at.checked_sub(pushed)?;
-    let by = left.checked_add(shift)?;
-    Some(by)
-}
 
 /// Rows named by their numbers from 0, equal rows by one number. Contracts see the list of what
 /// they mean. After out of memory the rows are as before.
@@ -41,9 +29,7 @@ pub struct InternedRows {
 impl InternedRows {
     ghost use Rattle.std.specs.Prelude.{◌≡◌, ◌<◌, ◌≤◌, ◌+◌, ◌^◌, [], length, take, IfOk, OnOk};
     ghost use Rattle.std.specs.Prelude.{OnErr};
-    ghost use Rattle.std.specs.Prelude.{IfSome, IsOk, IsSome, slice_get, Some};
-    ghost use Rattle.trees.specs.Trees.{Var, shift_by};
-    ghost use Rattle.trees.specs.Things.{ASubst, ATree, both, instance_of, then_of};
+    ghost use Rattle.std.specs.Prelude.{IsOk, IsSome, slice_get, Some};
     ghost use Rattle.std.specs.List.{All};
     ghost use Rattle.trees.specs.Things.{Meanings, Kept};
     ghost use Rattle.rows.specs.Views.{IsSubst, term_meaning, sub_meaning, ctx_meaning};
@@ -184,79 +170,6 @@ impl InternedRows {
         coded_row(self.words(row))
     }
 
-    /// The shift that `first then second` is, if `first` is a shift that drops all the trees that
-    /// `second` pushes.
-    fn shift_of_both(&self, first: SubId, second: SubId) -> Option<u64>
-        requires first { IsSubst (rows_mean self.now first.0) }
-        requires second { IsSubst (rows_mean self.now second.0) }
-        ensures { let f = rows_mean self.now in
-            IfSome result (λ by. both then_of (f first.0) (f second.0)
-            ≡ Some (ASubst (shift_by by))) }
-    {
-        let SubSize {
-            pushed: Some(0),
-            shift,
-        } = self.size(first)
-        else {
-            return None;
-        };
-        let SubSize {
-            pushed: Some(pushed),
-            shift: behind,
-        } = self.size(second)
-        else {
-            return None;
-        };
-        let by = past(shift, pushed, behind)?;
-        Some(by)
-    }
-
-    /// The row that is the instance, if no row need be made: a tree under the identity, or under a
-    /// shift that the substitution undoes.
-    fn undone(&self, term: TermId, sub: SubId) -> Option<u64>
-        requires { IsSome (both instance_of (rows_mean self.now term.0) (rows_mean self.now sub.0)) }
-        ensures { let f = rows_mean self.now in
-            IfSome result (λ row. f row ≡ both instance_of (f term.0) (f sub.0)) }
-    {
-        if let SubSize {
-            pushed: Some(0),
-            shift: 0,
-        } = self.size(sub)
-        {
-            return Some(term.0);
-        }
-        let TermRow::Instance(tree, first) = self.term(term) else {
-            return None;
-        };
-        match self.shift_of_both(first, sub) {
-            Some(0) => Some(tree.0),
-            _ => None,
-        }
-    }
-
-    /// The index of the variable that the instance is, if it is one past the trees that are pushed.
-    fn passed(&self, term: TermId, sub: SubId) -> Option<u32>
-        requires { IsSome (both instance_of (rows_mean self.now term.0) (rows_mean self.now sub.0)) }
-        ensures { let f = rows_mean self.now in
-            IfSome result (λ k. both instance_of (f term.0) (f sub.0) ≡ Some (ATree (Var k))) }
-    {
-        let TermRow::Var(index) = self.term(term) else {
-            return None;
-        };
-        let SubSize {
-            pushed: Some(pushed),
-            shift,
-        } = self.size(sub)
-        else {
-            return None;
-        };
-        let index = past(u64::from(index), pushed, shift)?;
-        match u32::try_from(index) {
-            Ok(index) => Some(index),
-            Err(_) => None,
-        }
-    }
-
     /// The size of a substitution.
     fn held_size(&self, id: SubId) -> HeldSize
         requires { IsSubst (rows_mean self.now id.0) }
@@ -287,10 +200,10 @@ impl Maker for InternedRows {
 
     fn instance(&mut self, term: u64, sub: u64) -> Result<u64, AllocError> {
         let (term, sub) = (TermId(term), SubId(sub));
-        if let Some(row) = self.undone(term, sub) {
+        if let Some(row) = undone(self, term, sub) {
             return Ok(row);
         }
-        match self.passed(term, sub) {
+        match passed(self, term, sub) {
             Some(index) => Ok(self.var(index)?),
             None => Ok(self.add_term(&TermRow::Instance(term, sub))?),
         }
@@ -307,9 +220,9 @@ impl Maker for InternedRows {
 
     fn then(&mut self, first: u64, second: u64) -> Result<u64, AllocError> {
         let (first, second) = (SubId(first), SubId(second));
-        match self.shift_of_both(first, second) {
-            Some(by) if by <= GREATEST_SHIFT => Ok(self.shift(by)?),
-            _ => {
+        match shift_of_both(self, first, second) {
+            Some(by) => Ok(self.shift(by)?),
+            None => {
                 let size = self.held_size(first);
                 let size = size.then(self.held_size(second));
                 Ok(self.add_sub(SubRow::Then(first, second), size)?)

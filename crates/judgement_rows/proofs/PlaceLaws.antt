@@ -1,5 +1,5 @@
 -- Places under one more name or variable than before.
-use Rattle.std.proofs.Common.{◌≡◌, ◌+◌, ℕ, zero, suc, [], ◌∷◌, ◌++◌, Some, refl, sym, ap, ◌∙◌, subst, arith, append_assoc}
+use Rattle.std.proofs.Common.{◌≡◌, ◌+◌, ◌-◌, min, ℕ, zero, suc, [], ◌∷◌, ◌++◌, Some, refl, sym, ap, ◌∙◌, subst, arith, append_assoc}
 use Rattle.trees.specs.Trees.{Tree, apply, shift_by, up}
 use Rattle.trees.specs.Judgements.{Context, WithVar, WithName}
 use Rattle.trees.specs.Things.{Meanings, AContext, Kept}
@@ -9,7 +9,7 @@ use Rattle.substitution.proofs.ThenLaws.{apply-id, apply-apply, shift_by-then-sh
 use Rattle.translation.specs.Terms.{lifted}
 use Rattle.codes.proofs.Logs.{append_empty}
 use Rattle.form_rows.specs.Meant.{Is, Are}
-use Rattle.form_rows.proofs.RowLaws.{kept_then, is_kept, are_kept, are_none, are_push, tree_kept}
+use Rattle.form_rows.proofs.RowLaws.{kept_then, is_kept, are_kept, are_none, are_push, tree_of_is}
 use Rattle.judgement_rows.specs.declared.places.Place.{Place}
 use Rattle.judgement_rows.specs.declared.places.Under.{Under}
 use Rattle.judgement_rows.specs.Places.{NamedIn, AllNamedIn, OpenedIn, BoundIn, with_names, with_variables, copies}
@@ -54,27 +54,38 @@ variables_next (suc n) A G =
     let d : 1 + n ≡ suc n = omega arith in
     rw e (variables_next n (lifted A) (WithVar G A) ∙ ap (WithVar (with_variables n (lifted A) (WithVar G A))) (apply-apply A up (shift_by n) ∙ ap (apply A) (shift_by-then-shift_by 1 n ∙ ap shift_by d)))
 
-pub record Binding (f g : Meanings) (p : Under) (ty n : ℕ) (q : Under) : Type 0 where
+-- So many are entered, and this is the row of the type of the last one, or of the first that is to come.
+pub record Binding (f g : Meanings) (p : Under) (ty here n : ℕ) (q : Under) : Type 0 where
   pub kept : Kept f g
   pub context : IsContext (g q.place.context)
+  pub last : (A : Tree) → Is f ty A → Is g here (apply A (shift_by (n - 1)))
   pub bound : BoundIn f g p q ty n
 
-pub binding_none : (f : Meanings) (p : Under) (ty : ℕ) → IsContext (f p.place.context) → Binding f f p ty 0 p
+pub binding_none : (f : Meanings) (p : Under) (ty : ℕ) → IsContext (f p.place.context) → Binding f f p ty ty 0 p
 binding_none f p ty h = record {
   kept = kept-same f;
   context = h;
+  last = λ A a. subst (Is f ty) (sym (apply-id A)) a;
   bound = record { more = []; types = sym (append_empty p.types.items); are = λ A a. are_none f; context = λ G A e a. e; depth = omega arith };
 }
 
-pub binding_more : {f g h i : Meanings} {p q r : Under} {ty n by row : ℕ} → IsTree (f ty) → Binding f g p ty n q → by ≡ n → Kept g h → ((t : Tree) → Is g ty t → Is h row (apply t (shift_by by)))
-    → Kept h i → OpenedIn h i q.place row r.place → r.types.items ≡ q.types.items ++ row ∷ [] → Binding f i p ty (n + 1) r
-binding_more {f} {g} {h} {i} {p} {q} {r} {ty} {n} {by} {row} tree b e kept here later opened types =
+-- from the type of the last variable to that of the next one
+next_type : (A : Tree) (n by : ℕ) → by ≡ min n 1 → apply (apply A (shift_by (n - 1))) (shift_by by) ≡ apply A (shift_by n)
+next_type A n by e =
+    let sum : n - 1 + by ≡ n = omega (arith, e) in
+    apply-apply A (shift_by (n - 1)) (shift_by by) ∙ ap (apply A) (shift_by-then-shift_by (n - 1) by ∙ ap shift_by sum)
+
+pub binding_more : {f g h i : Meanings} {p q r : Under} {ty here n by row : ℕ} → IsTree (f ty) → Binding f g p ty here n q → by ≡ min n 1 → Kept g h → ((t : Tree) → Is g here t → Is h row (apply t (shift_by by)))
+    → Kept h i → OpenedIn h i q.place row r.place → r.types.items ≡ q.types.items ++ row ∷ [] → Binding f i p ty row (n + 1) r
+binding_more {f} {g} {h} {i} {p} {q} {r} {ty} {here} {n} {by} {row} tree b e kept lifts later opened types =
     let row_is : (A : Tree) → Is f ty A → Is h row (apply A (shift_by n)) =
-    λ A a. subst (λ k. Is h row (apply A (shift_by k))) e (here A (is_kept b.kept a)) in
+    λ A a. subst (Is h row) (next_type A n by e) (lifts (apply A (shift_by (n - 1))) (b.last A a)) in
     let start : Is f ty tree.0 = record { is = tree.1 } in
+    let same : n ≡ n + 1 - 1 = omega arith in
     record {
       kept = kept_then b.kept (kept_then kept later);
       context = (WithVar b.context.0 (apply tree.0 (shift_by n)), opened.context b.context.0 (apply tree.0 (shift_by n)) (kept.keeps _ _ b.context.1) (row_is tree.0 start));
+      last = λ A a. subst (λ k. Is i row (apply A (shift_by k))) same (is_kept later (row_is A a));
       bound = record {
         more = b.bound.more ++ row ∷ [];
         types = types ∙ ap (λ xs. xs ++ row ∷ []) b.bound.types ∙ append_assoc p.types.items b.bound.more (row ∷ []);
@@ -85,8 +96,10 @@ binding_more {f} {g} {h} {i} {p} {q} {r} {ty} {n} {by} {row} tree b e kept here 
       };
     }
 
-pub binding_tree : {f g : Meanings} {p q : Under} {ty n : ℕ} → IsTree (f ty) → Binding f g p ty n q → IsTree (g ty)
-binding_tree {f} {g} {p} {q} {ty} tree b = tree_kept f g ty b.kept tree
+pub binding_tree : {f g : Meanings} {p q : Under} {ty here n : ℕ} → IsTree (f ty) → Binding f g p ty here n q → IsTree (g here)
+binding_tree {f} {g} {p} {q} {ty} {here} {n} tree b =
+    let start : Is f ty tree.0 = record { is = tree.1 } in
+    tree_of_is g here (b.last tree.0 start)
 
 pub naming_all : {f g : Meanings} {p q : Place} {n m : ℕ} → AllNamedIn f g p n q → n ≡ m → AllNamedIn f g p m q
 naming_all {f} {g} {p} {q} h e = subst (λ k. AllNamedIn f g p k q) e h

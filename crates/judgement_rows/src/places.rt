@@ -38,10 +38,10 @@ impl Under {
         ensures bound { OnOk result
             (BoundIn (M.means maker.old) (M.means maker.new) self.old self.new ty names) }
     {
-        let outer = self.place.depth;
-        for _name in 0..names {
-            let by = self.place.depth - outer;
-            let here = lifted(maker, ty, by)?;
+        // each is weakened from the one before, as a checker does it, so that their rows are alike
+        let mut here = ty;
+        for name in 0..names {
+            here = lifted(maker, here, name.min(1) as u32)?;
             self.place = self.place.under_variable(maker, here)?;
             self.types.push(here)?;
         }

@@ -10,3 +10,4 @@ pub mod RowLaws
 pub mod ShiftLaws
 pub mod RootLaws
 pub mod FileLaws
+pub mod MakerLaws

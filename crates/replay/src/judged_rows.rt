@@ -4,6 +4,7 @@ ghost use Rattle.replay.specs.Meant.{meant_by, AreNodes};
 
 use crate::row_judge::RowJudge;
 use deriv_file::Row;
+use rows::RowStore;
 use std::alloc::{AllocError, Global};
 use theory::Claim;
 
@@ -22,6 +23,7 @@ impl Rows {
     ghost use Rattle.std.specs.Prelude.{IfOk, IsSome, IsTrue, true, false};
     ghost use Rattle.trees.specs.Claimed.{claimed};
     ghost use Rattle.trees.specs.Things.{Kept};
+    ghost use Rattle.rows.specs.Shown.{store_means};
     ghost use Rattle.rows.specs.Views.{IsFit, row_meaning};
     ghost use Rattle.deriv_file.specs.Spelling.{MayStand};
     ghost use Rattle.derivation.specs.Meanings.{Meaning};
@@ -88,6 +90,13 @@ impl Rows {
         ensures { claimed (rows_mean self.now) result ≡ slice_get (root_judgements self.now) at }
     {
         self.judge.conclusion(self.roots[at as usize])
+    }
+
+    /// The rows that are trees, substitutions and contexts.
+    pub(crate) fn store(&self) -> &RowStore
+        ensures { store_means result.now ≡ rows_mean self.now }
+    {
+        self.judge.store()
     }
 
     /// Makes a row that fits, and answers its number. The only error is to be out of memory; then

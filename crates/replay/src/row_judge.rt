@@ -161,6 +161,13 @@ impl RowJudge {
         }
     }
 
+    /// The rows that are trees, substitutions and contexts.
+    pub fn store(&self) -> &RowStore
+        ensures { result.now ≡ self.now.store }
+    {
+        &self.store
+    }
+
     /// A row that fits, over the rows of the store: one of the file or one that was made before,
     /// where it is known that one reads so, else a new one.
     pub fn make(&mut self, row: rows::Row<'_>) -> Result<u64, AllocError>

@@ -1,4 +1,5 @@
-//! Rows are made over those of a judged file as over any others.
+//! Rows are made over those of a judged file as over any others. What is weakened has one form, as
+//! in the files that a checker writes, so that it is found among the rows of the file.
 
 ghost use Rattle.replay.specs.Shown.{rows_mean};
 
@@ -6,6 +7,7 @@ use crate::judged_rows::Rows;
 use rows::{CtxId, CtxRow, Maker, Row, SubId, SubRow, TermId, TermRow};
 use std::alloc::AllocError;
 use trees::Op;
+use weakenings::{passed, shift_of_both, undone};
 
 impl rows::Rows for Rows {
     ghost means = { rows_mean };
@@ -23,7 +25,14 @@ impl Maker for Rows {
     }
 
     fn instance(&mut self, term: u64, sub: u64) -> Result<u64, AllocError> {
-        Ok(self.add(Row::Term(TermRow::Instance(TermId(term), SubId(sub))))?)
+        let (term, sub) = (TermId(term), SubId(sub));
+        if let Some(row) = undone(self.store(), term, sub) {
+            return Ok(row);
+        }
+        match passed(self.store(), term, sub) {
+            Some(index) => Ok(self.var(index)?),
+            None => Ok(self.add(Row::Term(TermRow::Instance(term, sub)))?),
+        }
     }
 
     fn shift(&mut self, by: u64) -> Result<u64, AllocError> {
@@ -35,7 +44,11 @@ impl Maker for Rows {
     }
 
     fn then(&mut self, first: u64, second: u64) -> Result<u64, AllocError> {
-        Ok(self.add(Row::Subst(SubRow::Then(SubId(first), SubId(second))))?)
+        let (first, second) = (SubId(first), SubId(second));
+        match shift_of_both(self.store(), first, second) {
+            Some(by) => Ok(self.shift(by)?),
+            None => Ok(self.add(Row::Subst(SubRow::Then(first, second)))?),
+        }
     }
 
     fn ctx_nil(&mut self) -> Result<u64, AllocError> {

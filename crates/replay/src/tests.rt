@@ -1,7 +1,7 @@
 //! Files whose rows are right, and files with a row that is not.
 
 use crate::{Judged, Verdict, judge};
-use rows::{CtxId, CtxRow, Row, TermRow};
+use rows::{CtxId, CtxRow, Maker, Row, SubId, SubRow, TermId, TermRow};
 use std::alloc::{AllocError, Global};
 use std::test::Fail;
 use theory::{Claim, Op};
@@ -317,5 +317,18 @@ fn rows_of_the_file_are_found(rt: HostRuntime) -> Result<(), Fail> {
     assert_eq!(rt; rows.root_claim(0), Claim::Ty(nil, nat));
     assert!(rt; zero != nat);
     assert_eq!(rt; rows.add(Row::Term(TermRow::Make(Op::Zero, &[])))?, zero);
+    Ok(())
+}
+
+#[test]
+fn what_is_weakened_has_one_row(rt: HostRuntime) -> Result<(), Fail> {
+    let bytes = b"rules 1\nc nil\nn ctx.nil\nr 2\n".as_slice();
+    let mut rows = judge(rt.alloc(), bytes)?.rows;
+    let var = rows.add(Row::Term(TermRow::Var(0)))?;
+    let one = rows.add(Row::Subst(SubRow::Shift(1)))?;
+    let instance = Row::Term(TermRow::Instance(TermId(var), SubId(one)));
+    assert!(rt; rows.fits(&instance));
+    let weakened = rows.instance(var, one)?;
+    assert_eq!(rt; weakened, rows.var(1)?);
     Ok(())
 }

@@ -1,4 +1,4 @@
-use Rattle.std.proofs.Common.{◌≡◌, ◌∙◌, sym}
+use Rattle.std.proofs.Common.{◌∙◌, sym}
 use Rattle.trees.specs.Things.{ASubst}
 use Rattle.interned.specs.Shown.{rows_mean}
 use Rattle.interned.proofs.CodingLaws.{term_meaning-kind}

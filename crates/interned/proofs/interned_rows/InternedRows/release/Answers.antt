@@ -1,4 +1,4 @@
-use Rattle.std.proofs.Common.{◌≡◌, ◌≤◌, ◌∙◌, length, take, sym, ap, subst, arith, ℕ, List}
+use Rattle.std.proofs.Common.{◌≤◌, ◌∙◌, length, sym, ap, subst, arith, ℕ, List}
 use Rattle.rows.proofs.TableLaws.{length-built}
 use Rattle.interned.specs.Coded.{thing_of, things_coded, AreCoded}
 use Rattle.interned.proofs.CodedLaws.{things-cut, coded-cut}

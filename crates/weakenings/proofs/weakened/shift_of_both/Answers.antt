@@ -1,11 +1,10 @@
 use Rattle.std.proofs.Common.{◌≡◌, Some}
-use Rattle.interned.specs.Shown.{rows_mean}
-use Rattle.interned.proofs.WeakeningLaws.{both_shift, sized}
-use Rattle.interned.proofs.interned_rows.InternedRows.shift_of_both.Goals as goal
+use Rattle.weakenings.proofs.WeakeningLaws.{both_shift, sized}
+use Rattle.weakenings.proofs.weakened.shift_of_both.Goals as goal
 
-pub returns : goal.returns
-returns c =
-    let f = rows_mean c.args.self.now in
+pub returns-then-by-le-GREATEST_SHIFT-clause-both : goal.returns-then-by-le-GREATEST_SHIFT-clause-both
+returns-then-by-le-GREATEST_SHIFT-clause-both g c =
+    let f = g.R.Rows.means c.args.rows.now in
     let none : c.size.result.pushed ≡ Some 0 = search in
     let some : c.size-2.result.pushed ≡ Some c.in-Some-size.pushed = search in
     let by = c.in_ok-by.ensures in
