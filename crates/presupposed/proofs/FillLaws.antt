@@ -1,14 +1,16 @@
 -- How an entry is filled, and what its rows derive then.
-use Rattle.std.proofs.Common.{◌≡◌, ◌<◌, ◌≤◌, ◌+◌, ℕ, suc, Bool, true, false, List, [], ◌∷◌, ◌++◌, length, take, map, refl, sym, ◌∙◌, ap, ap₂, subst, arith, Option, Some, None, IsSome, length-append}
-use Rattle.std.specs.Prelude.{slice_get, option_and_then, sum_by}
+use Rattle.std.proofs.Common.{◌≡◌, ◌<◌, ◌≤◌, ◌+◌, ◌^◌, ℕ, zero, suc, Bool, true, false, List, [], ◌∷◌, ◌++◌, length, take, map, refl, sym, ◌∙◌, ap, ap₂, subst, arith, Option, Some, None, IsSome, length-append}
+use Rattle.std.specs.Prelude.{slice_get, slice_index_or, option_and_then, sum_by}
 use Rattle.std.proofs.lemmas.Option.{slice_get_within}
+use Rattle.std.proofs.lemmas.List.{length-map}
+use Rattle.std.proofs.lemmas.List.Sums.{sum_by-cons}
 use Rattle.std.specs.List.{All, Contains, list_all}
 use Rattle.theory.specs.declared.rule.RuleName.{RuleName}
 use Rattle.theory.specs.RuleNames.{kinds_of}
 use Rattle.trees.specs.Trees.{Subst}
 use Rattle.trees.specs.Judgements.{Context, Judgement, trees}
 use Rattle.trees.specs.Language.{Ctx, Ty, TyEq, Tm, TmEq, Sb}
-use Rattle.trees.specs.Things.{Thing, both, meanings}
+use Rattle.trees.specs.Things.{Thing, both, kind_of, meanings}
 use Rattle.trees.proofs.Meanings.{meanings-cons, meanings-length, meanings-push}
 use Rattle.rows.proofs.OptionLaws.{both-some, one-some}
 use Rattle.patterns.specs.Values.{parts_of, rule_of, judgement_of}
@@ -41,7 +43,8 @@ use Rattle.presuppositions.proofs.TreeLaws.{entry-derives}
 use Rattle.presupposed.specs.declared.memory.Question.{Question}
 use Rattle.presupposed.specs.Asked.{Stands}
 use Rattle.presupposed.specs.Tasks.{Awaits, Fills, place_of}
-use Rattle.presupposed.proofs.RuleLaws.{AllShort, IsShort, parts_fit}
+use Rattle.presupposed.specs.Parts.{IsInSight}
+use Rattle.presupposed.proofs.RuleLaws.{AllShort, IsShort, few_parts, in_sight, parts_fit}
 use Rattle.presupposed.proofs.SourceLaws.{all_sources, next_source, sought_at, sought_values}
 
 some-same : {A : Type 0} (x y : A) → ◌≡◌ {A = Option A} (Some x) (Some y) → x ≡ y
@@ -67,11 +70,11 @@ contained f [] [] x e (k, lt, is) = absurd (omega (arith, lt))
 contained f [] (y ∷ xs) x e c = absurd (cc e)
 contained {A} f (j ∷ ks) xs x e c =
     let m = meanings-cons f j ks xs e in
-    within m.first m.rest m.first_is m.rest_is (subst (λ ys. Contains ys x) m.whole c)
+    within m.first m.rest m.first_is (λ d. contained f ks m.rest x m.rest_is d) (subst (λ ys. Contains ys x) m.whole c)
   where
-    within : (first : A) (rest : List A) → f j ≡ Some first → meanings f ks ≡ Some rest → Contains (first ∷ rest) x → (k : ℕ) × (f k ≡ Some x)
-    within first rest first_is rest_is (0, lt, is) = (j, first_is ∙ ap Some is)
-    within first rest first_is rest_is (suc i, lt, is) = contained f ks rest x rest_is (i, omega (arith, lt), is)
+    within : (first : A) (rest : List A) → f j ≡ Some first → (Contains rest x → (k : ℕ) × (f k ≡ Some x)) → Contains (first ∷ rest) x → (k : ℕ) × (f k ≡ Some x)
+    within first rest first_is later (zero, lt, is) = (j, first_is ∙ ap Some is)
+    within first rest first_is later (suc i, lt, is) = later (i, omega (arith, lt), is)
 
 short_one : (b : Contents) (k : ℕ) (K : Judgement) → ShortShifts b → book_concludes b k ≡ Some K → IsShort K
 short_one b k (Sb H d G) h e = h k H d G e
@@ -91,6 +94,13 @@ wants_pattern name xs Js K i =
     let e : Some (rule_of (parts_of xs) (pattern_of name)) ≡ Some i.rule = sym (rule-pattern name xs kinds) ∙ i.is in
     let same : i.rule ≡ rule_of (parts_of xs) (pattern_of name) = cc in
     i.wants ∙ ap (λ r. r.wants) same
+
+pub gives_pattern : (name : RuleName) (xs : List Thing) (Js : List Judgement) (K : Judgement) (i : IsInstance name xs Js K) → K ≡ judgement_of (parts_of xs) (pattern_of name).gives
+gives_pattern name xs Js K i =
+    let kinds = rule_kinds name xs (subst IsSome (sym i.is) refl) in
+    let e : Some (rule_of (parts_of xs) (pattern_of name)) ≡ Some i.rule = sym (rule-pattern name xs kinds) ∙ i.is in
+    let same : i.rule ≡ rule_of (parts_of xs) (pattern_of name) = cc in
+    i.gives ∙ ap (λ r. r.gives) same
 
 -- an entry of which nothing is filled
 pub fills_start : (b : Contents) (q : Question) (e : Entry) (J : Judgement) (made : Node) (stands : Stands b q J) → book_nodes b q.node.0 ≡ Some made → IsUse (book_means b) (book_concludes b) made.rule made.parts made.premises stands.0 → IsEntry (equiv_tycong_statement ∷ []) made.rule q.label e.sources.now e.rows.now e.last → Fills b q e [] J
@@ -200,4 +210,38 @@ numbers_same _ = refl
 
 pub few_made : (rows : List Row) → most_made_by rows ≡ sum_by numbers_made rows
 few_made [] = refl
-few_made (r ∷ rows) = ap₂ (λ m n. m + n) (numbers_same r) (few_made rows)
+few_made (r ∷ rows) = sum_by-cons most_made r rows ∙ ap₂ (λ m n. m + n) (numbers_same r) (few_made rows) ∙ sym (sum_by-cons numbers_made r rows)
+
+-- the first of some numbers
+pub first_said : {A : Type 0} (f : ℕ → Option A) (ks : List ℕ) (x : A) (xs : List A) → meanings f ks ≡ Some (x ∷ xs) → f (slice_index_or ks 0 0) ≡ Some x
+first_said f [] x xs e = absurd (cc e)
+first_said f (k ∷ ks) x xs e =
+    let m = meanings-cons f k ks (x ∷ xs) e in
+    let w : x ∷ xs ≡ m.first ∷ m.rest = m.whole in
+    let same : m.first ≡ x = cc in
+    m.first_is ∙ ap Some same
+
+pub some_said : {A : Type 0} (f : ℕ → Option A) (ks : List ℕ) (x : A) (xs : List A) → meanings f ks ≡ Some (x ∷ xs) → 0 < length ks
+some_said f ks x xs e = let same = meanings-length f ks (x ∷ xs) e in omega (arith, same)
+
+-- the premises of the rule that made a context
+pub opened_context : (b : Contents) (rule : RuleName) (parts premises : List ℕ) (l : Label) (G : Context) (J : Judgement) → IsUse (book_means b) (book_concludes b) rule parts premises (Ctx G) → IsInSight l G → behind l (Ctx G) ≡ Some J → meanings (book_concludes b) premises ≡ Some (J ∷ [])
+opened_context b rule parts premises l G J u sight e =
+    let i = u.instance in
+    u.premises_are ∙ ap Some (i.wants ∙ in_sight rule u.things i.rule l G J i.is i.gives sight e)
+
+-- a rule has few parts
+pub parts_few : (b : Contents) (rule : RuleName) (parts premises : List ℕ) (J : Judgement) → IsUse (book_means b) (book_concludes b) rule parts premises J → length parts ≤ 16
+parts_few b rule parts premises J u =
+    let kinds = rule_kinds rule u.things (subst IsSome (sym u.instance.is) refl) in
+    let same = meanings-length (book_means b) parts u.things u.parts_are in
+    let count = sym (length-map u.things kind_of) ∙ ap length kinds in
+    let few = few_parts rule in
+    omega (arith, same, count, few)
+
+-- the parts and premises of the node
+pub made_parts : (b : Contents) (node : NodeId) (made : Node) (rule : RuleName) (parts premises : List ℕ) → book_nodes b node.0 ≡ Some made → IsMadeBy rule parts premises (book_nodes b node.0) → (parts ≡ made.parts) × (premises ≡ made.premises)
+made_parts b node made rule parts premises is by =
+    let e : Some by.node ≡ Some made = sym by.is ∙ is in
+    let same : by.node ≡ made = cc in
+    (sym by.parts_are ∙ ap (λ n. n.parts) same, sym by.premises_are ∙ ap (λ n. n.premises) same)

@@ -6,3 +6,5 @@ pub mod TaskLaws
 pub mod WeightLaws
 pub mod PartLaws
 pub mod EarlierLaws
+pub mod LoopLaws
+pub mod StepLaws

@@ -70,36 +70,36 @@ line_has l G T A u v J is part e = from l part (subst (λ t. behind l (Ty G t) �
 -- what is no form has no parts
 
 two_kids : (o : Op) (ts : Trees) (f : Tree → Tree → Judgement) (J : Judgement) → option_and_then (over_two f) (cond (is_binder o) (Some (listed ts)) None) ≡ Some J → IsNoForm (Make o ts) → ⊥
-two_kids op.Pi NoTrees f J e no = cc e
-two_kids op.Pi (More A NoTrees) f J e no = cc e
-two_kids op.Pi (More A (More B NoTrees)) f J e no = no.no_pi A B refl
-two_kids op.Pi (More A (More B (More C ts))) f J e no = cc e
-two_kids op.Sig NoTrees f J e no = cc e
-two_kids op.Sig (More A NoTrees) f J e no = cc e
-two_kids op.Sig (More A (More B NoTrees)) f J e no = no.no_sigma A B refl
-two_kids op.Sig (More A (More B (More C ts))) f J e no = cc e
-two_kids _ ts f J e no = cc e
+two_kids op.Pi NoTrees f J e other = cc e
+two_kids op.Pi (More A NoTrees) f J e other = cc e
+two_kids op.Pi (More A (More B NoTrees)) f J e other = other.no_pi A B refl
+two_kids op.Pi (More A (More B (More C ts))) f J e other = cc e
+two_kids op.Sig NoTrees f J e other = cc e
+two_kids op.Sig (More A NoTrees) f J e other = cc e
+two_kids op.Sig (More A (More B NoTrees)) f J e other = other.no_sigma A B refl
+two_kids op.Sig (More A (More B (More C ts))) f J e other = cc e
+two_kids _ ts f J e other = cc e
 
 three_kids : (o : Op) (ts : Trees) (f : Tree → Tree → Tree → Judgement) (J : Judgement) → option_and_then (over_three f) (cond (is_path o) (Some (listed ts)) None) ≡ Some J → IsNoForm (Make o ts) → ⊥
-three_kids op.PathP NoTrees f J e no = cc e
-three_kids op.PathP (More A NoTrees) f J e no = cc e
-three_kids op.PathP (More A (More B NoTrees)) f J e no = cc e
-three_kids op.PathP (More A (More B (More C NoTrees))) f J e no = no.no_path A B C refl
-three_kids op.PathP (More A (More B (More C (More D ts)))) f J e no = cc e
-three_kids _ ts f J e no = cc e
+three_kids op.PathP NoTrees f J e other = cc e
+three_kids op.PathP (More A NoTrees) f J e other = cc e
+three_kids op.PathP (More A (More B NoTrees)) f J e other = cc e
+three_kids op.PathP (More A (More B (More C NoTrees))) f J e other = other.no_path A B C refl
+three_kids op.PathP (More A (More B (More C (More D ts)))) f J e other = cc e
+three_kids _ ts f J e other = cc e
 
 pub no_parts : (l : Label) (G : Context) (T : Tree) (J : Judgement) → is_of_parts l ≡ true → behind l (Ty G T) ≡ Some J → IsNoForm T → ⊥
-no_parts label.Domain G (Var k) J p e no = cc e
-no_parts label.Domain G (Make o ts) J p e no = two_kids o ts (λ A B. Ty G A) J e no
-no_parts label.Codomain G (Var k) J p e no = cc e
-no_parts label.Codomain G (Make o ts) J p e no = two_kids o ts (λ A B. Ty (WithVar G A) B) J e no
-no_parts label.Line G (Var k) J p e no = cc e
-no_parts label.Line G (Make o ts) J p e no = three_kids o ts (λ A u v. Ty (WithName G) A) J e no
-no_parts label.LeftEnd G (Var k) J p e no = cc e
-no_parts label.LeftEnd G (Make o ts) J p e no = three_kids o ts (λ A u v. Tm G u (at trees A (i0 trees))) J e no
-no_parts label.RightEnd G (Var k) J p e no = cc e
-no_parts label.RightEnd G (Make o ts) J p e no = three_kids o ts (λ A u v. Tm G v (at trees A (i1 trees))) J e no
-no_parts _ G T J p e no = cc p
+no_parts label.Domain G (Var k) J p e other = cc e
+no_parts label.Domain G (Make o ts) J p e other = two_kids o ts (λ A B. Ty G A) J e other
+no_parts label.Codomain G (Var k) J p e other = cc e
+no_parts label.Codomain G (Make o ts) J p e other = two_kids o ts (λ A B. Ty (WithVar G A) B) J e other
+no_parts label.Line G (Var k) J p e other = cc e
+no_parts label.Line G (Make o ts) J p e other = three_kids o ts (λ A u v. Ty (WithName G) A) J e other
+no_parts label.LeftEnd G (Var k) J p e other = cc e
+no_parts label.LeftEnd G (Make o ts) J p e other = three_kids o ts (λ A u v. Tm G u (at trees A (i0 trees))) J e other
+no_parts label.RightEnd G (Var k) J p e other = cc e
+no_parts label.RightEnd G (Make o ts) J p e other = three_kids o ts (λ A u v. Tm G v (at trees A (i1 trees))) J e other
+no_parts _ G T J p e other = cc p
 
 -- the parts, by the nodes of their homes
 

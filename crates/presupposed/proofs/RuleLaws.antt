@@ -20,7 +20,7 @@ use Rattle.theory.specs.declared.rule.CompRule.TheVariants.{Comp, CompPi, CompSi
 use Rattle.theory.specs.declared.rule.GlueRule.TheVariants.{GlueTy}
 use Rattle.theory.specs.RuleNames.{kinds_of, premises_of, name_of}
 use Rattle.theory.proofs.Names.{every_rule}
-use Rattle.trees.specs.Trees.{Tree, Subst}
+use Rattle.trees.specs.Trees.{Tree, Subst, apply}
 use Rattle.trees.specs.Judgements.{Context, Nil, WithVar, WithName, WithFace, Judgement, TreeRule}
 use Rattle.trees.specs.Things.{Thing, ATree, ASubst, AContext, meanings}
 use Rattle.trees.specs.Language.{Ctx, Ty, TyEq, Tm, TmEq, Sb}
@@ -73,18 +73,18 @@ parts_short (Contexts SubId) = λ G h. tt
 parts_short (Contexts SubWk) = λ H d G A h. (h (Sb H d G) (first_of (Sb H d G) (Ty H A ∷ [])), tt)
 parts_short (Contexts SubWkName) = λ H d G h. (h (Sb H d G) (first_of (Sb H d G) []), tt)
 parts_short (Contexts SubWkFace) = λ H d G p h. (h (Sb H d G) (first_of (Sb H d G) []), tt)
-parts_short (Contexts SubVar) = λ H d G A a h. (h (Sb H d G) (first_of (Sb H d G) _), tt)
+parts_short (Contexts SubVar) = λ H d G A a h. (h (Sb H d G) (first_of (Sb H d G) (Ty G A ∷ Tm H a (apply A d) ∷ [])), tt)
 parts_short (Contexts SubForm) = λ H d G r h. (h (Sb H d G) (first_of (Sb H d G) []), tt)
 parts_short (Contexts SubFace) = λ H d G p h. (h (Sb H d G) (first_of (Sb H d G) []), tt)
-parts_short (Contexts SubComp) = λ K e H d G h. (h (Sb K e H) (first_of (Sb K e H) _), (h (Sb H d G) (second_of (Sb K e H) (Sb H d G) []), tt))
-parts_short (Instances TySub) = λ H d G A h. (h (Sb H d G) (first_of (Sb H d G) _), tt)
-parts_short (Instances TyEqSub) = λ H d G A B h. (h (Sb H d G) (first_of (Sb H d G) _), tt)
-parts_short (Instances TmSub) = λ H d G a A h. (h (Sb H d G) (first_of (Sb H d G) _), tt)
-parts_short (Instances TmEqSub) = λ H d G a b A h. (h (Sb H d G) (first_of (Sb H d G) _), tt)
-parts_short (Instances TyCong) = λ H d G A a b B h. (h (Sb H d G) (first_of (Sb H d G) _), tt)
-parts_short (Instances TmCong) = λ H d G A a b c B h. (h (Sb H d G) (first_of (Sb H d G) _), tt)
-parts_short (Instances TyInt) = λ H d e G B h. (h (Sb H d G) (first_of (Sb H d G) _), (h (Sb H e G) (second_of (Sb H d G) (Sb H e G) _), tt))
-parts_short (Instances TmInt) = λ H d e G c B h. (h (Sb H d G) (first_of (Sb H d G) _), (h (Sb H e G) (second_of (Sb H d G) (Sb H e G) _), tt))
+parts_short (Contexts SubComp) = λ K e H d G h. (h (Sb K e H) (first_of (Sb K e H) (Sb H d G ∷ [])), (h (Sb H d G) (second_of (Sb K e H) (Sb H d G) []), tt))
+parts_short (Instances TySub) = λ H d G A h. (h (Sb H d G) (first_of (Sb H d G) (Ty G A ∷ [])), tt)
+parts_short (Instances TyEqSub) = λ H d G A B h. (h (Sb H d G) (first_of (Sb H d G) (TyEq G A B ∷ [])), tt)
+parts_short (Instances TmSub) = λ H d G a A h. (h (Sb H d G) (first_of (Sb H d G) (Tm G a A ∷ [])), tt)
+parts_short (Instances TmEqSub) = λ H d G a b A h. (h (Sb H d G) (first_of (Sb H d G) (TmEq G a b A ∷ [])), tt)
+parts_short (Instances TyCong) = λ H d G A a b B h. (h (Sb H d G) (first_of (Sb H d G) (Ty (WithVar G A) B ∷ TmEq H a b (apply A d) ∷ [])), tt)
+parts_short (Instances TmCong) = λ H d G A a b c B h. (h (Sb H d G) (first_of (Sb H d G) (Tm (WithVar G A) c B ∷ TmEq H a b (apply A d) ∷ [])), tt)
+parts_short (Instances TyInt) = λ H d e G B h. (h (Sb H d G) (first_of (Sb H d G) (Sb H e G ∷ Ty G B ∷ [])), (h (Sb H e G) (second_of (Sb H d G) (Sb H e G) (Ty G B ∷ [])), tt))
+parts_short (Instances TmInt) = λ H d e G c B h. (h (Sb H d G) (first_of (Sb H d G) (Sb H e G ∷ Tm G c B ∷ [])), (h (Sb H e G) (second_of (Sb H d G) (Sb H e G) (Tm G c B ∷ [])), tt))
 parts_short (Instances TmVar) = λ G A h. tt
 parts_short (Equality TyEqRefl) = search rules
 parts_short (Equality _) = search rules

@@ -5,11 +5,11 @@ use Rattle.std.proofs.lemmas.Bool.{and_parts}
 use Rattle.trees.specs.Judgements.{Context, Judgement, trees}
 use Rattle.trees.specs.Language.{Ctx, Ty}
 use Rattle.trees.specs.Things.{meanings}
-use Rattle.trees.proofs.Meanings.{meanings-cons}
+use Rattle.trees.proofs.Meanings.{kept-same, meanings-cons}
 use Rattle.rows.proofs.OptionLaws.{one-some}
 use Rattle.theory.specs.declared.rule.RuleName.{RuleName}
 use Rattle.book.specs.Contents.{Contents}
-use Rattle.book.specs.Shown.{book_concludes, book_nodes, Extends}
+use Rattle.book.specs.Shown.{book_concludes, book_means, book_nodes, Extends}
 use Rattle.book.specs.declared.kernel.NodeId.{NodeId}
 use Rattle.typed_nodes.specs.Typed.{Says}
 use Rattle.presuppositions.specs.declared.source.Label.{Label}
@@ -59,6 +59,7 @@ module _ (old new : Contents) (grown : Extends old new) where
   }
 
   awaits_later : (q : Question) (e : Entry) (few : List ℕ) (K J : Judgement) → Awaits old q e few K J → Awaits new q e few K J
+  unfolding fills_later
   awaits_later q e few K J a = record { fills = fills_later q e few J a.fills; more = a.more; next = a.next }
 
   pub does_later : (top : Question) (t : Task) (K J : Judgement) → Does old top t K J → Does new top t K J
@@ -108,9 +109,11 @@ module _ (b : Contents) (top q : Question) (way : IsOnTheWay top q) (premise : N
 
   part_of : (m : Label) (C : Judgement) → behind label.Type P ≡ Some C → behind m C ≡ Some S → is_of_sides q.label ≡ true → is_of_parts m ≡ true → DoAll b top (task.Ask (asked premise label.Type) ∷ task.PartIn (asked premise label.Context) m ∷ rest) K J
   part_of m C c s side part =
-      let (G, T, is, ctx) = is_type P C c in
-      (C, (way_on top q premise label.Type way lt (goes_to_type q.label side), (P, says, c)),
-      (S, (G, T, is, way_on top q premise label.Context way lt refl, (P, says, ctx), part, ap (behind m) (sym is) ∙ s), goes))
+      let (G, T, is, ctx) = is_type P C c in (
+        C,
+        (way_on top q premise label.Type way lt (goes_to_type q.label side), (P, says, c)),
+        (S, (G, T, is, way_on top q premise label.Context way lt refl, (P, says, ctx), part, ap (behind m) (sym is) ∙ s), goes),
+      )
 
   pub finds_source : (s : Source) → slice_get wants (place_of s) ≡ Some P → source_of trees tree_views wants s ≡ Some S → is_sought trees tree_views wants q.label s ≡ true → DoAll b top (tasks_for premise s ++ rest) K J
   finds_source (source.Premise k) at e h =
@@ -132,3 +135,15 @@ module _ (b : Contents) (top q : Question) (way : IsOnTheWay top q) (premise : N
       let both = and_parts (is_of_sides q.label) (is_of_parts m) h in
       part_of m o.first (behind_at wants k P o.first label.Type at o.first_is) o.whole both.0 both.1
   finds_source (source.Further k _ m) at e h = absurd (cc h)
+
+pub grown_same : (b : Contents) → Extends b b
+grown_same b = record {
+  rows = kept-same (book_means b);
+  nodes = λ k node e. e;
+  conclusions = λ k J e. e;
+  marks = λ mark is. is;
+}
+
+pub other_task : (premise : NodeId) (k : ℕ) (l m : Label) → (l ≡ label.Context → ⊥) → tasks_for premise (source.Further k l m) ≡ task.Ask (asked premise l) ∷ task.PartIn (asked premise label.Context) m ∷ []
+other_task premise k label.Context m other = absurd (other refl)
+other_task premise k _ m other = refl

@@ -21,7 +21,7 @@ much_earlier p n lt =
     omega (arith, le, e)
 
 pub work-append : (ts us : List Task) → work (ts ++ us) ≡ work ts + work us
-work-append [] us = refl
+work-append [] us = omega arith
 work-append (t ∷ ts) us = let e = work-append ts us in omega (arith, e)
 
 -- what finds a source weighs less than three times the node

@@ -7,7 +7,7 @@
 //! let found = type_of(alloc, book, &NoRightSides, term)?;
 //! // Found::Node, of G >> B{a}: the codomain of the type of f, under a
 //! ```
-#![tactic(none)]
+#![tactic(auto)]
 
 mod earlier;
 mod memory;

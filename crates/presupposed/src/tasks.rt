@@ -1,7 +1,9 @@
 //! What is to be done.
 
-ghost use Rattle.std.specs.Prelude.{◌≡◌, ◌++◌, OnOk, reverse};
-ghost use Rattle.presupposed.specs.Tasks.{place_of, tasks_for};
+ghost use Rattle.std.specs.Prelude.{◌≡◌, ◌++◌, ◌∷◌, [], ℕ, OnOk, reverse};
+ghost use Rattle.presuppositions.specs.declared.source.Source.TheVariants as source;
+ghost use Rattle.presupposed.specs.declared.tasks.Task.TheVariants as task;
+ghost use Rattle.presupposed.specs.Tasks.{asked, place_of, tasks_for};
 
 use crate::memory::Question;
 use book::{Few, NodeId};
@@ -36,13 +38,33 @@ pub fn place(source: Source) -> u16
     }
 }
 
+/// What is to be done with what stands behind a node with a label, to have what stands further
+/// behind it.
+fn after(premise: NodeId, label: Label, further: Label) -> Task
+    ensures { (place : ℕ) → tasks_for premise (source.Further place label further)
+        ≡ task.Ask (asked premise label) ∷ result ∷ [] }
+{
+    match label {
+        Label::Context => Task::LastEntry(further),
+        _ => Task::PartIn(
+            Question {
+                node: premise,
+                label: Label::Context,
+            },
+            further,
+        ),
+    }
+}
+
 /// To find a source, where its premise is this node, before all else.
 pub fn plan(tasks: &mut Vec<Task>, premise: NodeId, source: Source) -> Result<(), AllocError>
     ensures { OnOk result
-        (reverse tasks.new.items ≡ tasks_for premise source ++ reverse tasks.old.items) }
+        (reverse tasks.new.items ≡ tasks_for premise «source» ++ reverse tasks.old.items) }
 {
     match source {
-        Source::Premise(_) => tasks.push(Task::Take(premise))?,
+        Source::Premise(_) => {
+            tasks.push(Task::Take(premise))?;
+        }
         Source::Behind(_, label) => {
             tasks.push(Task::Ask(Question {
                 node: premise,
@@ -50,17 +72,7 @@ pub fn plan(tasks: &mut Vec<Task>, premise: NodeId, source: Source) -> Result<()
             }))?;
         }
         Source::Further(_, label, further) => {
-            let next = match label {
-                Label::Context => Task::LastEntry(further),
-                _ => Task::PartIn(
-                    Question {
-                        node: premise,
-                        label: Label::Context,
-                    },
-                    further,
-                ),
-            };
-            tasks.push(next)?;
+            tasks.push(after(premise, label, further))?;
             tasks.push(Task::Ask(Question {
                 node: premise,
                 label,
