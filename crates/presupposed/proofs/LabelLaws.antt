@@ -1,5 +1,5 @@
 -- Labels that are asked on the way, and what stands behind judgements with them.
-use Rattle.std.proofs.Common.{◌≡◌, ◌||◌, ◌&&◌, Bool, true, false, List, refl, sym, ◌∙◌, ap, Option, Some, None}
+use Rattle.std.proofs.Common.{◌≡◌, ◌||◌, ◌&&◌, Bool, true, false, List, refl, sym, ◌∙◌, ap, ap₂, Option, Some, None}
 use Rattle.std.proofs.lemmas.Bool.{and_parts}
 use Rattle.trees.specs.Trees.{Tree}
 use Rattle.trees.specs.Judgements.{Context, Nil, WithVar, WithName, WithFace, Judgement, trees}
@@ -10,6 +10,7 @@ use Rattle.presuppositions.specs.declared.source.Label.{Label}
 use Rattle.presuppositions.specs.declared.source.Label.TheVariants as label
 use Rattle.presuppositions.specs.Behind.{behind, behind_pattern}
 use Rattle.presuppositions.specs.Sought.{is_none, is_of_contexts, is_of_sides, goes_on}
+use Rattle.presupposed.specs.Asked.{IsEquation, IsJudgedAt, IsJudgedIn}
 use Rattle.presupposed.proofs.RuleLaws.{is_shown}
 
 exclusive : (l : Label) → (is_of_contexts l && is_of_sides l) ≡ false
@@ -110,3 +111,42 @@ is_type (TyEq G A B) C e = absurd (cc e)
 is_type (Tm G t A) C e = (G, A, (let same : Ty G A ≡ C = cc in sym same), refl)
 is_type (TmEq G t u A) C e = (G, A, (let same : Ty G A ≡ C = cc in sym same), refl)
 is_type (Sb H d G) C e = absurd (cc e)
+
+pub not_both : (l : Label) → is_of_contexts l ≡ true → is_of_sides l ≡ true → ⊥
+not_both l x y =
+    let e : true ≡ false = sym (ap₂ (λ a b. a && b) x y) ∙ exclusive l in
+    cc e
+
+-- what is asked stands there
+
+pub context_behind : (J : Judgement) (G : Context) → IsJudgedIn J G → behind label.Context J ≡ Some (Ctx G)
+context_behind (Ty H A) G is = ap (λ K. Some (Ctx K)) is
+context_behind (TyEq H A B) G is = ap (λ K. Some (Ctx K)) is
+context_behind (Tm H t A) G is = ap (λ K. Some (Ctx K)) is
+context_behind (TmEq H t u A) G is = ap (λ K. Some (Ctx K)) is
+context_behind (Ctx H) G is = absurd is
+context_behind (Sb K d H) G is = absurd is
+
+pub type_behind : (J : Judgement) (G : Context) (A : Tree) → IsJudgedAt J G A → behind label.Type J ≡ Some (Ty G A)
+type_behind (Tm H t B) G A is = ap₂ (λ K T. Some (Ty K T)) is.0 is.1
+type_behind (TmEq H t u B) G A is = ap₂ (λ K T. Some (Ty K T)) is.0 is.1
+type_behind (Ctx H) G A is = absurd is
+type_behind (Ty H B) G A is = absurd is
+type_behind (TyEq H B C) G A is = absurd is
+type_behind (Sb K d H) G A is = absurd is
+
+pub left_behind : (J left right : Judgement) → IsEquation J left right → behind label.Left J ≡ Some left
+left_behind (TyEq G A B) left right is = ap Some (sym is.0)
+left_behind (TmEq G t u A) left right is = ap Some (sym is.0)
+left_behind (Ctx G) left right is = absurd is
+left_behind (Ty G A) left right is = absurd is
+left_behind (Tm G t A) left right is = absurd is
+left_behind (Sb H d G) left right is = absurd is
+
+pub right_behind : (J left right : Judgement) → IsEquation J left right → behind label.Right J ≡ Some right
+right_behind (TyEq G A B) left right is = ap Some (sym is.1)
+right_behind (TmEq G t u A) left right is = ap Some (sym is.1)
+right_behind (Ctx G) left right is = absurd is
+right_behind (Ty G A) left right is = absurd is
+right_behind (Tm G t A) left right is = absurd is
+right_behind (Sb H d G) left right is = absurd is

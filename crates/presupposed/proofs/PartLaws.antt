@@ -11,6 +11,7 @@ use Rattle.substitution.proofs.ThenLaws.{apply-id}
 use Rattle.substitution.proofs.BinderLaws.{apply-at}
 use Rattle.rules.specs.Table.{at, i0, i1, pathp, pi, sig}
 use Rattle.book.specs.Contents.{Contents}
+use Rattle.book.specs.Shown.{Extends}
 use Rattle.book.specs.declared.kernel.NodeId.{NodeId}
 use Rattle.typed_nodes.specs.declared.types.TypeAt.{TypeAt}
 use Rattle.typed_nodes.specs.declared.types.Family.{Family}
@@ -113,22 +114,22 @@ domain_at b family G A B is = record {
   is = is.left;
 }
 
-pub codomain_at : (b : Contents) (family : Family) (under : NodeId) (G : Context) (A B : Tree) (is : IsFamily b family G A B) → Says b under (Sb (WithVar G (apply is.domain is.sub)) (lift trees is.sub) (WithVar is.home is.domain)) → IsTypeAt b (record { ty = family.codomain; sub = under }) (WithVar G A) B
-codomain_at b family under G A B is says = record {
+pub codomain_at : (b c : Contents) (grown : Extends b c) (family : Family) (under : NodeId) (G : Context) (A B : Tree) (is : IsFamily b family G A B) → Says c under (Sb (WithVar G (apply is.domain is.sub)) (lift trees is.sub) (WithVar is.home is.domain)) → IsTypeAt c (record { ty = family.codomain; sub = under }) (WithVar G A) B
+codomain_at b c grown family under G A B is says = record {
   home = WithVar is.home is.domain;
   tree = is.codomain;
   sub = lift trees is.sub;
-  type_is = is.codomain_is;
-  sub_is = subst (λ t. Says b under (Sb (WithVar G t) (lift trees is.sub) (WithVar is.home is.domain))) (sym is.left) says;
+  type_is = grown.conclusions family.codomain.0 (Ty (WithVar is.home is.domain) is.codomain) is.codomain_is;
+  sub_is = subst (λ t. Says c under (Sb (WithVar G t) (lift trees is.sub) (WithVar is.home is.domain))) (sym is.left) says;
   is = is.right;
 }
 
-pub line_at : (b : Contents) (line : Line) (under : NodeId) (G : Context) (A u v : Tree) (is : IsLine b line G A u v) → Says b under (Sb (WithName G) (lift trees is.sub) (WithName is.home)) → IsTypeAt b (record { ty = line.ty; sub = under }) (WithName G) A
-line_at b line under G A u v is says = record {
+pub line_at : (b c : Contents) (grown : Extends b c) (line : Line) (under : NodeId) (G : Context) (A u v : Tree) (is : IsLine b line G A u v) → Says c under (Sb (WithName G) (lift trees is.sub) (WithName is.home)) → IsTypeAt c (record { ty = line.ty; sub = under }) (WithName G) A
+line_at b c grown line under G A u v is says = record {
   home = WithName is.home;
   tree = is.tree;
   sub = lift trees is.sub;
-  type_is = is.line_is;
+  type_is = grown.conclusions line.ty.0 (Ty (WithName is.home) is.tree) is.line_is;
   sub_is = says;
   is = is.is;
 }

@@ -95,7 +95,8 @@ pub fn part_of(
 {
     let sub = identity(book, ctx)?;
     match literal(alloc, book, TypeAt { ty, sub })? {
-        Literal::Pi(family) | Literal::Sigma(family) => Ok(family_part(book, family, label)?),
+        Literal::Pi(family) => Ok(family_part(book, family, label)?),
+        Literal::Sigma(family) => Ok(family_part(book, family, label)?),
         Literal::Path(line) => Ok(line_part(book, line, label)?),
         Literal::Other => unreachable!(),
     }

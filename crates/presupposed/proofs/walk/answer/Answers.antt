@@ -1,7 +1,8 @@
-use Rattle.std.proofs.Common.{◌++◌, ◌∷◌, ◌∙◌, refl, ap, subst}
+use Rattle.std.proofs.Common.{◌++◌, [], ◌∷◌, ◌∙◌, refl, ap, subst}
 use Rattle.literal_types.proofs.GrowthLaws.{extends_extends}
 use Rattle.literal_types.proofs.WaitLaws.{none_left}
 use Rattle.presupposed.specs.declared.tasks.Task.TheVariants as task
+use Rattle.presupposed.specs.declared.walk.Search.{Search}
 use Rattle.presupposed.specs.Walks.{Comes}
 use Rattle.presupposed.proofs.LoopLaws.{all_found, begun, next_less, next_task}
 use Rattle.presupposed.proofs.TaskLaws.{grown_same}
@@ -19,7 +20,7 @@ pub step-requires : goal.step-requires
 step-requires g c =
     let (J, stands) = c.requires.stands in
     let l = c.loop-task in
-    let left = record { alloc = l.search.alloc; tasks = c.pop.new.self; memory = l.search.memory; found = l.search.found } in
+    let left : Search = record { alloc = l.search.alloc; tasks = c.pop.new.self; memory = l.search.memory; found = l.search.found } in
     let (I, leads, does) = next_task l.book l.search left c.args.question c.in-Some.task J c.in-Some.ensures.items refl refl (l.invariant.goes J stands) in
     (c.args.question, I, J, leads, does)
 
@@ -36,7 +37,7 @@ loop-task-preserved g c = record {
   extends = extends_extends c.loop-task.invariant.extends c.in_ok-step.ensures.extends;
   goes = λ J stands.
       let l = c.loop-task in
-      let left = record { alloc = l.search.alloc; tasks = c.pop.new.self; memory = l.search.memory; found = l.search.found } in
+      let left : Search = record { alloc = l.search.alloc; tasks = c.pop.new.self; memory = l.search.memory; found = l.search.found } in
       let (I, leads, does) = next_task l.book l.search left c.args.question c.in-Some.task J c.in-Some.ensures.items refl refl (l.invariant.goes J stands) in
       subst (λ n. Comes (g.R.RightSides.has c.args.rights.now) c.step.new.book c.step.new.self c.args.question n J) c.in-Moved.is (c.in_ok-step.ensures.goes c.args.question I J leads does);
 }
@@ -47,7 +48,7 @@ returns-in-Wanting-clause-extends g c = extends_extends c.loop-task.invariant.ex
 pub returns-in-Wanting-clause-found : goal.returns-in-Wanting-clause-found
 returns-in-Wanting-clause-found g c = λ J stands.
     let l = c.loop-task in
-    let left = record { alloc = l.search.alloc; tasks = c.pop.new.self; memory = l.search.memory; found = l.search.found } in
+    let left : Search = record { alloc = l.search.alloc; tasks = c.pop.new.self; memory = l.search.memory; found = l.search.found } in
     let (I, leads, does) = next_task l.book l.search left c.args.question c.in-Some.task J c.in-Some.ensures.items refl refl (l.invariant.goes J stands) in
     subst (λ n. Comes (g.R.RightSides.has c.args.rights.now) c.step.new.book c.step.new.self c.args.question n J) c.in-Wanting.is (c.in_ok-step.ensures.goes c.args.question I J leads does)
 
