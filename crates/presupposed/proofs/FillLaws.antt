@@ -1,16 +1,15 @@
 -- How an entry is filled, and what its rows derive then.
-use Rattle.std.proofs.Common.{◌≡◌, ◌<◌, ◌≤◌, ◌+◌, ◌^◌, ℕ, zero, suc, Bool, true, false, List, [], ◌∷◌, ◌++◌, length, take, map, refl, sym, ◌∙◌, ap, ap₂, subst, arith, Option, Some, None, IsSome, length-append}
+use Rattle.std.proofs.Common.{◌≡◌, ◌<◌, ◌≤◌, ◌+◌, ◌^◌, ℕ, zero, suc, true, List, [], ◌∷◌, ◌++◌, length, take, map, refl, sym, ◌∙◌, ap, ap₂, subst, arith, Option, Some, IsSome, length-append}
 use Rattle.std.specs.Prelude.{slice_get, slice_index_or, option_and_then, sum_by}
 use Rattle.std.proofs.lemmas.Option.{slice_get_within}
 use Rattle.std.proofs.lemmas.List.{length-map}
 use Rattle.std.proofs.lemmas.List.Sums.{sum_by-cons}
-use Rattle.std.specs.List.{All, Contains, list_all}
+use Rattle.std.specs.List.{Contains, list_all}
 use Rattle.theory.specs.declared.rule.RuleName.{RuleName}
-use Rattle.theory.specs.RuleNames.{kinds_of}
 use Rattle.trees.specs.Trees.{Subst}
 use Rattle.trees.specs.Judgements.{Context, Judgement, trees}
 use Rattle.trees.specs.Language.{Ctx, Ty, TyEq, Tm, TmEq, Sb}
-use Rattle.trees.specs.Things.{Thing, both, kind_of, meanings}
+use Rattle.trees.specs.Things.{Thing, kind_of, meanings}
 use Rattle.trees.proofs.Meanings.{meanings-cons, meanings-length, meanings-push}
 use Rattle.rows.proofs.OptionLaws.{both-some, one-some}
 use Rattle.patterns.specs.Values.{parts_of, rule_of, judgement_of}
@@ -35,7 +34,6 @@ use Rattle.presuppositions.specs.declared.source.Source.TheVariants as source
 use Rattle.presuppositions.specs.declared.source.Entry.{Entry}
 use Rattle.presuppositions.specs.Behind.{behind, behind_pattern, tree_views}
 use Rattle.presuppositions.specs.Entries.{IsEntry, over_rule}
-use Rattle.presuppositions.specs.AtTrees.{DerivesBehind}
 use Rattle.presuppositions.specs.Sources.{source_of, sources, source_patterns}
 use Rattle.presuppositions.specs.Sought.{is_sought, numbers_made}
 use Rattle.presuppositions.proofs.BehindLaws.{source-values}

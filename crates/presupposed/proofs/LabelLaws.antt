@@ -1,10 +1,9 @@
 -- Labels that are asked on the way, and what stands behind judgements with them.
-use Rattle.std.proofs.Common.{◌≡◌, ◌||◌, ◌&&◌, Bool, true, false, List, refl, sym, ◌∙◌, ap, ap₂, Option, Some, None}
-use Rattle.std.proofs.lemmas.Bool.{and_parts}
+use Rattle.std.proofs.Common.{◌≡◌, ◌||◌, ◌&&◌, Bool, true, false, refl, sym, ◌∙◌, ap, ap₂, Some}
 use Rattle.trees.specs.Trees.{Tree}
 use Rattle.trees.specs.Judgements.{Context, Nil, WithVar, WithName, WithFace, Judgement, trees}
 use Rattle.trees.specs.Language.{Ctx, Ty, TyEq, Tm, TmEq, Sb}
-use Rattle.patterns.specs.Patterns.{ContextPattern, ContextPart, Empty, AddVar, AddName, AddFace, JudgementPattern}
+use Rattle.patterns.specs.Patterns.{ContextPart, Empty, AddVar, AddName, AddFace, JudgementPattern}
 use Rattle.patterns.specs.Values.{Parts, judgement_of}
 use Rattle.presuppositions.specs.declared.source.Label.{Label}
 use Rattle.presuppositions.specs.declared.source.Label.TheVariants as label

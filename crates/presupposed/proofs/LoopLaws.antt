@@ -1,21 +1,18 @@
 -- A search goes on to what it is for.
-use Rattle.std.proofs.Common.{◌≡◌, ◌+◌, ◌<◌, ◌++◌, ℕ, Bool, List, [], ◌∷◌, length, reverse, refl, sym, ◌∙◌, ap, subst, arith, Option, Some, None}
-use Rattle.theory.specs.declared.rule.RuleName.{RuleName}
+use Rattle.std.proofs.Common.{◌≡◌, ◌+◌, ◌<◌, ◌++◌, [], ◌∷◌, reverse, refl, sym, ◌∙◌, ap, subst, arith, Some, None}
 use Rattle.trees.specs.Judgements.{Judgement}
 use Rattle.book.specs.Contents.{Contents}
-use Rattle.book.specs.Shown.{book_concludes, Extends}
-use Rattle.book.specs.declared.kernel.NodeId.{NodeId}
+use Rattle.book.specs.Shown.{Extends}
 use Rattle.typed_nodes.specs.Typed.{Says}
 use Rattle.literal_types.proofs.WaitLaws.{pushed_one}
 use Rattle.presuppositions.specs.Behind.{behind}
-use Rattle.presupposed.specs.declared.memory.Memory.{Memory}
 use Rattle.presupposed.specs.declared.memory.Question.{Question}
 use Rattle.presupposed.specs.declared.tasks.Task.{Task}
 use Rattle.presupposed.specs.declared.tasks.Task.TheVariants as task
 use Rattle.presupposed.specs.declared.walk.Search.{Search}
 use Rattle.presupposed.specs.Memory.{remembered}
 use Rattle.presupposed.specs.Asked.{IsOnTheWay, Stands}
-use Rattle.presupposed.specs.Tasks.{DoAll, Does, task_weight, work}
+use Rattle.presupposed.specs.Tasks.{DoAll, task_weight, work}
 use Rattle.presupposed.specs.Walks.{DoesNext, Goes, Leads, Remembers, to_do}
 
 -- one judgement answers a question

@@ -1,11 +1,11 @@
 -- The parts of types that are literal forms.
-use Rattle.std.proofs.Common.{◌≡◌, Bool, true, false, cond, List, [], ◌∷◌, refl, sym, ◌∙◌, ap, ap₂, subst, Option, Some, None}
+use Rattle.std.proofs.Common.{◌≡◌, true, cond, refl, sym, ◌∙◌, ap, ap₂, subst, Some, None}
 use Rattle.std.specs.Prelude.{option_and_then}
 use Rattle.trees.specs.declared.op.Op.{Op}
 use Rattle.trees.specs.declared.op.Op.TheVariants as op
-use Rattle.trees.specs.Trees.{Tree, Trees, Var, Make, NoTrees, More, Subst, id, apply}
+use Rattle.trees.specs.Trees.{Tree, Trees, Var, Make, NoTrees, More, id, apply}
 use Rattle.trees.specs.Judgements.{Context, WithVar, WithName, Judgement, trees}
-use Rattle.trees.specs.Language.{Ctx, Ty, Tm, Sb}
+use Rattle.trees.specs.Language.{Ty, Tm, Sb}
 use Rattle.substitution.specs.Forms.{lift}
 use Rattle.substitution.proofs.ThenLaws.{apply-id}
 use Rattle.substitution.proofs.BinderLaws.{apply-at}
@@ -13,7 +13,6 @@ use Rattle.rules.specs.Table.{at, i0, i1, pathp, pi, sig}
 use Rattle.book.specs.Contents.{Contents}
 use Rattle.book.specs.Shown.{Extends}
 use Rattle.book.specs.declared.kernel.NodeId.{NodeId}
-use Rattle.typed_nodes.specs.declared.types.TypeAt.{TypeAt}
 use Rattle.typed_nodes.specs.declared.types.Family.{Family}
 use Rattle.typed_nodes.specs.declared.types.Line.{Line}
 use Rattle.typed_nodes.specs.Typed.{IsFamily, IsLine, IsTypeAt, Says}

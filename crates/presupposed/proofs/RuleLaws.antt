@@ -1,7 +1,7 @@
 -- What holds of each rule: the shifts of its parts, the contexts that it makes, what stands behind its
 -- conclusion.
-use Rattle.std.proofs.Common.{◌≡◌, ◌≤◌, ◌^◌, ◌||◌, ◌&&◌, ℕ, nat_le, Bool, true, false, List, [], ◌∷◌, length, refl, sym, ◌∙◌, ap, subst, arith, rules, Option, Some, None}
-use Rattle.std.specs.List.{All, Contains, list_all}
+use Rattle.std.proofs.Common.{◌≡◌, ◌≤◌, ◌^◌, nat_le, Bool, true, false, List, [], ◌∷◌, length, refl, sym, ◌∙◌, ap, subst, arith, rules, Some}
+use Rattle.std.specs.List.{All, Contains}
 use Rattle.std.proofs.lemmas.Bool.{leb-true}
 use Rattle.std.proofs.lemmas.List.Elements.{All-nil, All-cons}
 use Rattle.theory.specs.declared.rule.RuleName.{RuleName}
@@ -18,16 +18,16 @@ use Rattle.theory.specs.declared.rule.NatRule.TheVariants.{NatU}
 use Rattle.theory.specs.declared.rule.SystemRule.TheVariants.{SysTy}
 use Rattle.theory.specs.declared.rule.CompRule.TheVariants.{Comp, CompPi, CompSig, CompPath, CompGlue, CompU}
 use Rattle.theory.specs.declared.rule.GlueRule.TheVariants.{GlueTy}
-use Rattle.theory.specs.RuleNames.{kinds_of, premises_of, name_of}
+use Rattle.theory.specs.RuleNames.{kinds_of, name_of}
 use Rattle.theory.proofs.Names.{every_rule}
-use Rattle.trees.specs.Trees.{Tree, Subst, apply}
+use Rattle.trees.specs.Trees.{apply}
 use Rattle.trees.specs.Judgements.{Context, Nil, WithVar, WithName, WithFace, Judgement, TreeRule}
-use Rattle.trees.specs.Things.{Thing, ATree, ASubst, AContext, meanings}
+use Rattle.trees.specs.Things.{Thing, ATree, ASubst, AContext}
 use Rattle.trees.specs.Language.{Ctx, Ty, TyEq, Tm, TmEq, Sb}
 use Rattle.rules.specs.Rules.{AtAll, rule_at}
 use Rattle.rules.proofs.TableLaws.{at_these}
 use Rattle.book.proofs.NodeLaws.{named-all}
-use Rattle.patterns.specs.Patterns.{ContextPattern, ContextPart, Empty, AddVar, AddName, AddFace, JudgementPattern}
+use Rattle.patterns.specs.Patterns.{ContextPart, JudgementPattern}
 use Rattle.recipes.specs.Made.{ShiftIsAtMost, greatest_part_shift}
 use Rattle.recipes.specs.Statements.{pattern_of}
 use Rattle.presuppositions.specs.declared.source.Label.{Label}

@@ -1,11 +1,9 @@
 -- What one step of a search does to what it leads to, and to what is to be done.
-use Rattle.std.proofs.Common.{◌≡◌, ◌+◌, ◌*◌, ◌-◌, ◌<◌, ◌≤◌, ◌++◌, ◌||◌, ℕ, zero, suc, Bool, true, false, List, [], ◌∷◌, length, reverse, refl, sym, ◌∙◌, ap, subst, arith, Option, Some, None}
+use Rattle.std.proofs.Common.{◌≡◌, ◌+◌, ◌*◌, ◌-◌, ◌<◌, ◌≤◌, ◌++◌, ◌||◌, ℕ, zero, suc, Bool, true, false, List, [], ◌∷◌, length, reverse, refl, sym, ◌∙◌, ap, subst, arith, Some}
 use Rattle.std.specs.Prelude.{slice_get, slice_index_or}
 use Rattle.theory.specs.declared.rule.RuleName.{RuleName}
-use Rattle.trees.specs.Judgements.{Judgement, trees}
-use Rattle.trees.specs.Language.{Ctx, Ty}
+use Rattle.trees.specs.Judgements.{Judgement}
 use Rattle.literal_types.proofs.StepLaws.{said_at}
-use Rattle.literal_types.proofs.WaitLaws.{pushed_one}
 use Rattle.patterns.specs.Values.{parts_of, judgement_of}
 use Rattle.recipes.specs.Statements.{pattern_of}
 use Rattle.book.specs.Contents.{Contents}
@@ -15,13 +13,11 @@ use Rattle.book.specs.Shown.{book_concludes, book_means, book_nodes, Extends}
 use Rattle.book.specs.declared.kernel.NodeId.{NodeId}
 use Rattle.typed_nodes.specs.Typed.{Says}
 use Rattle.glue_entries.specs.Statements.{equiv_tycong_statement}
-use Rattle.presuppositions.specs.declared.source.Label.{Label}
-use Rattle.presuppositions.specs.declared.source.Label.TheVariants as label
 use Rattle.presuppositions.specs.declared.source.Source.{Source}
 use Rattle.presuppositions.specs.declared.source.Entry.{Entry}
 use Rattle.presuppositions.specs.Behind.{behind}
-use Rattle.presuppositions.specs.Entries.{Answers, IsEntry, has_none, is_unfolded}
-use Rattle.presuppositions.specs.Sought.{goes_on, is_none, is_of_sides}
+use Rattle.presuppositions.specs.Entries.{IsEntry, has_none, is_unfolded}
+use Rattle.presuppositions.specs.Sought.{goes_on}
 use Rattle.presupposed.specs.declared.memory.Memory.{Memory}
 use Rattle.presupposed.specs.declared.memory.Question.{Question}
 use Rattle.presupposed.specs.declared.tasks.Task.{Task}
@@ -29,8 +25,8 @@ use Rattle.presupposed.specs.declared.tasks.Task.TheVariants as task
 use Rattle.presupposed.specs.declared.walk.Search.{Search}
 use Rattle.presupposed.specs.Memory.{IsRemembered, remembered}
 use Rattle.presupposed.specs.Asked.{IsOnTheWay, IsUnfoldedBy, IsWanting, Stands, right_side}
-use Rattle.presupposed.specs.Tasks.{Awaits, DoAll, Does, Fills, place_of, task_weight, tasks_for, weight, work}
-use Rattle.presupposed.specs.Walks.{DoesNext, Goes, Leads, Remembers}
+use Rattle.presupposed.specs.Tasks.{DoAll, Fills, place_of, tasks_for, weight, work}
+use Rattle.presupposed.specs.Walks.{Goes, Leads}
 use Rattle.presupposed.proofs.FillLaws.{fills_next, fills_start, made_use, gives_pattern}
 use Rattle.presupposed.proofs.LabelLaws.{asked-kind, from_sides, pattern_has}
 use Rattle.presupposed.proofs.LoopLaws.{one_answer}

@@ -1,5 +1,5 @@
 -- What tasks find is found where the book has grown; what finds a source.
-use Rattle.std.proofs.Common.{◌≡◌, ◌<◌, ◌≤◌, ◌&&◌, ℕ, suc, Bool, true, false, List, [], ◌∷◌, ◌++◌, length, take, refl, sym, ◌∙◌, ap, subst, arith, Option, Some, None, inl, inr}
+use Rattle.std.proofs.Common.{◌≡◌, ◌<◌, ℕ, true, List, [], ◌∷◌, ◌++◌, refl, sym, ◌∙◌, ap, subst, arith, Option, Some, None, inl, inr}
 use Rattle.std.specs.Prelude.{slice_get, option_and_then}
 use Rattle.std.proofs.lemmas.Bool.{and_parts}
 use Rattle.trees.specs.Judgements.{Context, Judgement, trees}
@@ -9,7 +9,7 @@ use Rattle.trees.proofs.Meanings.{kept-same, meanings-cons}
 use Rattle.rows.proofs.OptionLaws.{one-some}
 use Rattle.theory.specs.declared.rule.RuleName.{RuleName}
 use Rattle.book.specs.Contents.{Contents}
-use Rattle.book.specs.Shown.{book_concludes, book_means, book_nodes, Extends}
+use Rattle.book.specs.Shown.{book_concludes, book_means, Extends}
 use Rattle.book.specs.declared.kernel.NodeId.{NodeId}
 use Rattle.typed_nodes.specs.Typed.{Says}
 use Rattle.presuppositions.specs.declared.source.Label.{Label}
@@ -24,7 +24,7 @@ use Rattle.presupposed.specs.declared.memory.Memory.{Memory}
 use Rattle.presupposed.specs.declared.memory.Question.{Question}
 use Rattle.presupposed.specs.declared.tasks.Task.{Task}
 use Rattle.presupposed.specs.declared.tasks.Task.TheVariants as task
-use Rattle.presupposed.specs.Memory.{remembered, IsRemembered}
+use Rattle.presupposed.specs.Memory.{IsRemembered}
 use Rattle.presupposed.specs.Asked.{IsOnTheWay, IsUnfoldedBy, Stands}
 use Rattle.presupposed.specs.Parts.{IsInSight}
 use Rattle.presupposed.specs.Tasks.{asked, Awaits, DoAll, Does, Fills, place_of, tasks_for}

@@ -1,15 +1,13 @@
 -- A question weighs more than what its entry asks.
-use Rattle.std.proofs.Common.{◌≡◌, ◌+◌, ◌*◌, ◌-◌, ◌^◌, ◌<◌, ◌≤◌, ℕ, zero, suc, List, [], ◌∷◌, ◌++◌, length, refl, sym, ◌∙◌, ap, arith, lit≤}
+use Rattle.std.proofs.Common.{◌≡◌, ◌+◌, ◌*◌, ◌-◌, ◌^◌, ◌<◌, ◌≤◌, ℕ, suc, List, [], ◌∷◌, ◌++◌, ◌∙◌, ap, arith, lit≤}
 use Rattle.std.proofs.Math.Nat.{pow-suc, one-le-pow, pow-le-pow_right}
 use Rattle.book.specs.declared.kernel.NodeId.{NodeId}
 use Rattle.presuppositions.specs.declared.source.Label.TheVariants as label
-use Rattle.presuppositions.specs.declared.source.Entry.{Entry}
 use Rattle.presuppositions.specs.declared.source.Source.{Source}
 use Rattle.presuppositions.specs.declared.source.Source.TheVariants as source
 use Rattle.presupposed.specs.declared.memory.Question.{Question}
 use Rattle.presupposed.specs.declared.tasks.Task.{Task}
-use Rattle.presupposed.specs.declared.tasks.Task.TheVariants as task
-use Rattle.presupposed.specs.Tasks.{weight, work, task_weight, tasks_for}
+use Rattle.presupposed.specs.Tasks.{weight, work, tasks_for}
 
 pub some_weight : (n : NodeId) → 0 < weight n
 some_weight n = let one : 1 ≤ 64 ^ n.0 = one-le-pow n.0 64 (omega arith) in omega (arith, one)

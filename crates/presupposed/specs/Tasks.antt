@@ -21,11 +21,9 @@ use Rattle.presuppositions.specs.Behind.{behind, tree_views}
 use Rattle.presuppositions.specs.Entries.{IsEntry}
 use Rattle.presuppositions.specs.Sources.{sources}
 use Rattle.presuppositions.specs.Sought.{is_of_parts, is_sought}
-use Rattle.presupposed.specs.declared.memory.Memory.{Memory}
 use Rattle.presupposed.specs.declared.memory.Question.{Question}
 use Rattle.presupposed.specs.declared.tasks.Task.{Task}
 use Rattle.presupposed.specs.declared.tasks.Task.TheVariants as task
-use Rattle.presupposed.specs.Memory.{remembered}
 use Rattle.presupposed.specs.Asked.{IsOnTheWay, Stands}
 use Rattle.presupposed.specs.Parts.{IsInSight}
 

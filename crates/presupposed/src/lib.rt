@@ -10,6 +10,7 @@
 #![tactic(auto)]
 
 mod earlier;
+mod kids;
 mod memory;
 mod parts;
 mod presuppositions_of;
@@ -17,6 +18,7 @@ mod right_sides;
 mod tasks;
 mod walk;
 
+pub use kids::{kid_of, kids_of};
 pub use memory::Question;
 pub use presuppositions_of::{context_of, far_of, home_of, left_of, right_of, type_of};
 pub use right_sides::{NoRightSides, RightSides};

@@ -1,6 +1,5 @@
-use Rattle.std.proofs.Common.{subst, sym}
-use Rattle.trees.specs.Trees.{id}
-use Rattle.trees.specs.Language.{Ctx, Ty, Sb}
+use Rattle.std.proofs.Common.{subst}
+use Rattle.trees.specs.Language.{Ty}
 use Rattle.typed_nodes.proofs.GrowthLaws.{says_later}
 use Rattle.literal_types.proofs.GrowthLaws.{extends_extends}
 use Rattle.literal_types.specs.Literal.{IsLiteral}

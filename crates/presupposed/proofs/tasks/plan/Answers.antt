@@ -1,6 +1,5 @@
 use Rattle.std.proofs.Common.{◌≡◌, ◌++◌, ◌∙◌, reverse, sym, ap, subst}
 use Rattle.literal_types.proofs.WaitLaws.{pushed_two}
-use Rattle.presuppositions.specs.declared.source.Source.TheVariants as source
 use Rattle.presupposed.specs.declared.tasks.Task.TheVariants as task
 use Rattle.presupposed.specs.Tasks.{asked, tasks_for}
 use Rattle.presupposed.proofs.tasks.plan.Goals as goal

@@ -1,5 +1,4 @@
-use Rattle.std.proofs.Common.{◌≡◌, ◌∙◌, [], ◌∷◌, length, sym, ap, subst, arith, Some}
-use Rattle.std.specs.Prelude.{slice_index_or}
+use Rattle.std.proofs.Common.{◌∙◌, [], ◌∷◌, sym, ap, subst, arith}
 use Rattle.trees.specs.Things.{meanings}
 use Rattle.book.specs.Shown.{book_concludes}
 use Rattle.glue_entries.specs.Statements.{equiv_tycong_statement}

@@ -1,4 +1,4 @@
-use Rattle.std.proofs.Common.{length, take, ap, arith}
+use Rattle.std.proofs.Common.{length, ap, arith}
 use Rattle.std.proofs.lemmas.List.{length-take-le}
 use Rattle.presupposed.proofs.walk.listed.Goals as goal
 

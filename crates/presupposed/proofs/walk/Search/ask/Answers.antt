@@ -1,9 +1,8 @@
-use Rattle.std.proofs.Common.{◌≡◌, ◌*◌, ◌-◌, ◌∙◌, [], ◌∷◌, length, sym, ap, subst, arith, true, false, Some}
+use Rattle.std.proofs.Common.{◌≡◌, ◌*◌, ◌-◌, ◌∙◌, [], ◌∷◌, length, sym, ap, subst, arith, false}
 use Rattle.std.specs.Prelude.{MatchOption}
 use Rattle.trees.specs.Judgements.{Judgement}
 use Rattle.typed_nodes.specs.Typed.{Says}
 use Rattle.presupposed.specs.Asked.{Stands, right_side}
-use Rattle.theory.specs.declared.rule.RuleName.{RuleName}
 use Rattle.glue_entries.specs.Statements.{equiv_tycong_statement}
 use Rattle.typed_nodes.proofs.TypeLaws.{is_node}
 use Rattle.presuppositions.specs.Entries.{Answers}

@@ -1,5 +1,5 @@
-use Rattle.std.proofs.Common.{◌≡◌, ◌∷◌, ◌∙◌, reverse, refl, sym, ap, subst, Some}
-use Rattle.trees.specs.Language.{Ctx, Ty}
+use Rattle.std.proofs.Common.{refl, sym, subst}
+use Rattle.trees.specs.Language.{Ctx}
 use Rattle.literal_types.proofs.WaitLaws.{pushed_two}
 use Rattle.typed_nodes.specs.Typed.{Says}
 use Rattle.presupposed.specs.declared.tasks.Task.TheVariants as task
