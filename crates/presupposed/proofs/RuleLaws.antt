@@ -24,6 +24,7 @@ use Rattle.trees.specs.Trees.{apply}
 use Rattle.trees.specs.Judgements.{Context, Nil, WithVar, WithName, WithFace, Judgement, TreeRule}
 use Rattle.trees.specs.Things.{Thing, ATree, ASubst, AContext}
 use Rattle.trees.specs.Language.{Ctx, Ty, TyEq, Tm, TmEq, Sb}
+use Rattle.typed_nodes.proofs.StandLaws.{AreShort}
 use Rattle.rules.specs.Rules.{AtAll, rule_at}
 use Rattle.rules.proofs.TableLaws.{at_these}
 use Rattle.book.proofs.NodeLaws.{named-all}
@@ -44,12 +45,6 @@ IsShort _ = Unit {0}
 
 abbrev pub AllShort : List Judgement → Type 0
 AllShort Js = (K : Judgement) → Contains Js K → IsShort K
-
-abbrev AreShort : List Thing → Type 0
-AreShort [] = Unit {0}
-AreShort (ASubst d ∷ xs) = (d.shift ≤ 2 ^ 48) × AreShort xs
-AreShort (ATree t ∷ xs) = AreShort xs
-AreShort (AContext G ∷ xs) = AreShort xs
 
 shifts_fit : (xs : List Thing) → AreShort xs → All (ShiftIsAtMost greatest_part_shift) xs
 shifts_fit [] h = All-nil (ShiftIsAtMost greatest_part_shift)

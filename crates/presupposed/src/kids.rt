@@ -11,7 +11,7 @@ ghost use Rattle.presuppositions.specs.Behind.{behind};
 ghost use Rattle.presuppositions.specs.Sought.{is_of_parts};
 
 use crate::parts::part_of;
-use crate::presuppositions_of::context_of;
+use crate::questions::context_of;
 use book::{Book, NodeId};
 use literal_types::{Literal, literal};
 use presuppositions::Label;

@@ -13,13 +13,13 @@ mod earlier;
 mod kids;
 mod memory;
 mod parts;
-mod presuppositions_of;
+mod questions;
 mod right_sides;
 mod tasks;
 mod walk;
 
 pub use kids::{kid_of, kids_of};
 pub use memory::Question;
-pub use presuppositions_of::{context_of, far_of, home_of, left_of, right_of, type_of};
+pub use questions::{context_of, far_of, home_of, left_of, right_of, type_of};
 pub use right_sides::{NoRightSides, RightSides};
 pub use walk::Found;

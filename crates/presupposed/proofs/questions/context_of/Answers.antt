@@ -1,6 +1,6 @@
 use Rattle.trees.specs.Language.{Ctx}
 use Rattle.presupposed.proofs.LabelLaws.{context_behind}
-use Rattle.presupposed.proofs.presuppositions_of.context_of.Goals as goal
+use Rattle.presupposed.proofs.questions.context_of.Goals as goal
 
 pub context-requires-clause-stands : goal.context-requires-clause-stands
 context-requires-clause-stands c =

@@ -1,7 +1,7 @@
 use Rattle.std.proofs.Common.{subst, false}
 use Rattle.presupposed.specs.Asked.{IsFound}
 use Rattle.presupposed.proofs.LabelLaws.{not_both}
-use Rattle.presupposed.proofs.presuppositions_of.context.Goals as goal
+use Rattle.presupposed.proofs.questions.context.Goals as goal
 
 pub unreachable-requires : goal.unreachable-requires
 unreachable-requires c =

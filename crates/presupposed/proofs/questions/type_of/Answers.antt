@@ -1,6 +1,6 @@
 use Rattle.trees.specs.Language.{Ty}
 use Rattle.presupposed.proofs.LabelLaws.{type_behind}
-use Rattle.presupposed.proofs.presuppositions_of.type_of.Goals as goal
+use Rattle.presupposed.proofs.questions.type_of.Goals as goal
 
 pub answer-requires-clause-stands : goal.answer-requires-clause-stands
 answer-requires-clause-stands g c =

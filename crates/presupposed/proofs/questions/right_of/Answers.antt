@@ -1,5 +1,5 @@
 use Rattle.presupposed.proofs.LabelLaws.{right_behind}
-use Rattle.presupposed.proofs.presuppositions_of.right_of.Goals as goal
+use Rattle.presupposed.proofs.questions.right_of.Goals as goal
 
 pub answer-requires-clause-stands : goal.answer-requires-clause-stands
 answer-requires-clause-stands g c =
