@@ -1,5 +1,6 @@
 -- What the test of entries accepts is one, and what is so of each of some rules or labels.
-use Rattle.std.proofs.Common.{◌≡◌, ℕ, List, [], ◌∷◌, Bool, true, false, not, ◌⊎◌, inl, inr, refl, sym, ◌∙◌, ap, subst, Option, Some, None}
+use Rattle.std.proofs.Common.{◌≡◌, ℕ, List, [], ◌∷◌, Bool, true, false, not, ◌⊎◌, inl, inr, refl, sym, ◌∙◌, ap, subst, Option, Some, None, length, nat_le, leb-true}
+use Rattle.std.specs.Prelude.{sum_by}
 use Rattle.std.specs.List.{list_all}
 use Rattle.theory.specs.declared.rule.RuleName.{RuleName}
 use Rattle.patterns.proofs.SameLaws.{both}
@@ -11,25 +12,33 @@ use Rattle.recipes.proofs.Soundness.{derives-sound}
 use Rattle.presuppositions.specs.declared.source.Entry.{Entry}
 use Rattle.presuppositions.specs.declared.source.Label.{Label}
 use Rattle.presuppositions.specs.declared.source.Source.{Source}
-use Rattle.presuppositions.specs.Entries.{IsEntry, Answers, Has, entry_statement, has_none, is_entry, is_derived_where}
+use Rattle.presuppositions.specs.Sought.{numbers_made}
+use Rattle.presuppositions.specs.Entries.{IsEntry, Answers, Has, entry_statement, has_none, is_entry, is_derived_where, is_walked}
 
 not-true : (b : Bool) → not b ≡ true → b ≡ false
 not-true false h = refl
 not-true true h = absurd (cc h)
 
-stated : (earlier : List Statement) (name : RuleName) (l : Label) (sources : List Source) (rows : List Row) (last : ℕ) (o : Option Statement) → entry_statement name l sources ≡ o → is_derived_where earlier rows last o ≡ true → has_none name l ≡ false → IsEntry earlier name l sources rows last
-stated earlier name l sources rows last None is h due = absurd (cc h)
-stated earlier name l sources rows last (Some s) is h due = record {
-  statement = s;
-  is = is;
-  derives = derives-sound follows follows-sound earlier s rows (last ∷ []) h;
-  due = due;
-}
+stated : (earlier : List Statement) (name : RuleName) (l : Label) (sources : List Source) (rows : List Row) (last : ℕ) (o : Option Statement) → entry_statement name l sources ≡ o → is_derived_where earlier rows last o ≡ true → has_none name l ≡ false → is_walked name l sources rows ≡ true → IsEntry earlier name l sources rows last
+stated earlier name l sources rows last None is h due walked = absurd (cc h)
+stated earlier name l sources rows last (Some s) is h due walked =
+    let few = both (nat_le (length sources) 16) _ walked in
+    let rest = both (nat_le (sum_by numbers_made rows) 512) _ few.1 in
+    record {
+      statement = s;
+      is = is;
+      derives = derives-sound follows follows-sound earlier s rows (last ∷ []) h;
+      due = due;
+      few_sources = leb-true (length sources) 16 few.0;
+      few_numbers = leb-true (sum_by numbers_made rows) 512 rest.0;
+      sought = rest.1;
+    }
 
 pub entry-derived : (earlier : List Statement) (name : RuleName) (l : Label) (sources : List Source) (rows : List Row) (last : ℕ) → is_entry earlier name l sources rows last ≡ true → IsEntry earlier name l sources rows last
 entry-derived earlier name l sources rows last h =
     let f = both (not (has_none name l)) _ h in
-    stated earlier name l sources rows last (entry_statement name l sources) refl f.1 (not-true (has_none name l) f.0)
+    let g = both (is_walked name l sources rows) _ f.1 in
+    stated earlier name l sources rows last (entry_statement name l sources) refl g.1 (not-true (has_none name l) f.0) g.0
 
 had : (earlier : List Statement) (name : RuleName) (l : Label) (sources : List Source) (rows : List Row) (last : ℕ) (o : Option Entry) → Has sources rows last o → is_entry earlier name l sources rows last ≡ true → Answers earlier name l o
 had earlier name l sources rows last None has h = absurd has

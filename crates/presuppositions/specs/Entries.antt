@@ -1,13 +1,14 @@
 -- What an entry states, and when rows derive it.
 use Rattle.std.specs.Prelude.{◌≡◌, ℕ, List, [], ◌∷◌, Bool, true, false, ◌&&◌, ◌||◌, not}
-use Rattle.std.specs.Prelude.{Option, Some, None}
+use Rattle.std.specs.Prelude.{Option, Some, None, ◌≤◌, nat_le, length, sum_by}
+use Rattle.std.specs.List.{list_all}
 use Rattle.theory.specs.declared.rule.RuleName.{RuleName}
 use Rattle.theory.specs.declared.rule.RuleName.TheVariants.{Composition}
 use Rattle.theory.specs.declared.rule.CompRule.TheVariants.{CompPi, CompSig, CompPath, CompGlue}
 use Rattle.theory.specs.declared.rule.CompRule.TheVariants.{CompU}
 use Rattle.theory.specs.RuleNames.{kinds_of}
 use Rattle.trees.specs.Things.{both}
-use Rattle.patterns.specs.Patterns.{JudgementPattern}
+use Rattle.patterns.specs.Patterns.{patterns, JudgementPattern}
 use Rattle.pattern_sides.specs.Follows.{follows}
 use Rattle.recipes.specs.declared.row.Row.{Row}
 use Rattle.recipes.specs.Statements.{Statement, pattern_of}
@@ -17,7 +18,8 @@ use Rattle.presuppositions.specs.declared.source.Entry.{Entry}
 use Rattle.presuppositions.specs.declared.source.Label.{Label}
 use Rattle.presuppositions.specs.declared.source.Label.TheVariants as label
 use Rattle.presuppositions.specs.declared.source.Source.{Source}
-use Rattle.presuppositions.specs.Behind.{behind_pattern}
+use Rattle.presuppositions.specs.Behind.{behind_pattern, pattern_views}
+use Rattle.presuppositions.specs.Sought.{is_none, is_sought, numbers_made}
 use Rattle.presuppositions.specs.Sources.{source_patterns}
 
 -- over the parts and the side conditions of a rule
@@ -46,13 +48,16 @@ is_unfolded (Composition CompGlue) label.Right = true
 is_unfolded (Composition CompU) label.Right = true
 is_unfolded _ _ = false
 
-abbrev pub is_none : {A : Type 0} → Option A → Bool
-is_none None = true
-is_none (Some x) = false
-
 -- nothing of the label stands behind the conclusion of the rule, or what stands there is unfolded
 abbrev pub has_none : RuleName → Label → Bool
 has_none name l = is_none (behind_pattern l (pattern_of name).gives) || is_unfolded name l
+
+-- few sources, all of which a walk can have, and rows that make few numbers
+abbrev pub is_walked : RuleName → Label → List Source → List Row → Bool
+is_walked name l sources rows =
+    nat_le (length sources) 16
+    && (nat_le (sum_by numbers_made rows) 512
+    && list_all (is_sought patterns pattern_views (pattern_of name).wants l) sources)
 
 -- the rows derive, of what the sources name, what stands behind the conclusion of the rule
 pub record IsEntry (earlier : List Statement) (name : RuleName) (l : Label)
@@ -61,6 +66,9 @@ pub record IsEntry (earlier : List Statement) (name : RuleName) (l : Label)
   pub is : entry_statement name l sources ≡ Some statement
   pub derives : Derives earlier statement rows (last ∷ [])
   pub due : has_none name l ≡ false
+  pub few_sources : length sources ≤ 16
+  pub few_numbers : sum_by numbers_made rows ≤ 512
+  pub sought : list_all (is_sought patterns pattern_views (pattern_of name).wants l) sources ≡ true
 
 -- an entry, where one is due
 abbrev pub Answers : List Statement → RuleName → Label → Option Entry → Type 0
@@ -82,4 +90,5 @@ is_derived_where earlier rows last (Some s) = is_derived follows earlier s rows 
 abbrev pub is_entry : List Statement → RuleName → Label → List Source → List Row → ℕ → Bool
 is_entry earlier name l sources rows last =
     not (has_none name l)
-    && is_derived_where earlier rows last (entry_statement name l sources)
+    && (is_walked name l sources rows
+    && is_derived_where earlier rows last (entry_statement name l sources))

@@ -1,4 +1,5 @@
 pub mod Behind
 pub mod Sources
+pub mod Sought
 pub mod Entries
 pub mod AtTrees

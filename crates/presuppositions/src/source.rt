@@ -7,7 +7,7 @@ ghost use Rattle.recipes.specs.declared.row.Row.TheVariants as row;
 use recipes::Row;
 
 /// What stands behind a judgement.
-#[derive(Clone, Copy, Debug, PartialEq, Eq)]
+#[derive(Clone, Copy, Debug, PartialEq, Eq, Hash)]
 pub enum Label {
     /// `ctx G`, behind what is so in G; of `ctx G.A`, `ctx G.I` and `ctx G.p` it is `ctx G`.
     Context,

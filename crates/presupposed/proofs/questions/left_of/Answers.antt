@@ -1,0 +1,10 @@
+use Rattle.presupposed.proofs.LabelLaws.{left_behind}
+use Rattle.presupposed.proofs.questions.left_of.Goals as goal
+
+pub answer-requires-clause-stands : goal.answer-requires-clause-stands
+answer-requires-clause-stands g c =
+    let (left, right, (J, says, is)) = c.requires in
+    (left, (J, says, left_behind J left right is))
+
+pub returns-clause-typed : goal.returns-clause-typed
+returns-clause-typed g c = λ left right equates. let (J, says, is) = equates in c.in_ok-answer.ensures.found left (J, says, left_behind J left right is)

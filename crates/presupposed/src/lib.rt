@@ -1,0 +1,25 @@
+//! What stands behind the nodes of a book: the context of a typing, the type of a term, the sides
+//! of an equation, typed. No rule leads there; each is had from the derivation of the node, by the
+//! entries of the rules that made it.
+//!
+//! ```text
+//! // term : G >> app f a : B{a}, made by app of f : pi A B and a : A
+//! let found = type_of(alloc, book, &NoRightSides, term)?;
+//! // Found::Node, of G >> B{a}: the codomain of the type of f, under a
+//! ```
+#![tactic(auto)]
+
+mod earlier;
+mod kids;
+mod memory;
+mod parts;
+mod questions;
+mod right_sides;
+mod tasks;
+mod walk;
+
+pub use kids::{kid_of, kids_of};
+pub use memory::Question;
+pub use questions::{context_of, far_of, home_of, left_of, right_of, type_of};
+pub use right_sides::{NoRightSides, RightSides};
+pub use walk::Found;
