@@ -24,7 +24,7 @@ use Rattle.resolver.specs.Resolved.{AreCodes, AreEarlier, Holds, IsFaultOf, IsTo
 use Rattle.resolver.proofs.Leaving.{words_append, words_kept}
 use Rattle.linking.specs.declared.known.Known.{Known as Kept}
 use Rattle.linking.specs.declared.linked.Linker.{Linker}
-use Rattle.linking.specs.Modules.{Known, AreFine, RefusedFirst, and_known, defs_in, judgements, known_as, meaning_after, meanings, meanings_after, reached}
+use Rattle.linking.specs.Modules.{Known, AreFine, RefusedFirst, and_known, defs_in, judgements, known_as, meaning_after, meanings, meanings_after, names_in, reached}
 use Rattle.linking.specs.Reaching.{Stand, Sees, are_among, names_of}
 use Rattle.linking.specs.Linked.{HasLinked, IsLinked, Keeps, known_after, meaning_of_next}
 use Rattle.linking.proofs.ReachLaws.{all_append, all_one, names_push}
@@ -40,6 +40,11 @@ take_front (x ∷ xs) ys zero e = absurd (omega arith)
 take_front (x ∷ xs) ys (suc n) e = ap (λ zs. x ∷ zs) (take_front xs ys n (omega arith))
 
 -- one module more
+
+named_more : {A B C : Type 0} (f : A → B) (g : C → List B) (ls rs all : List A) (cs : List C) (c : C) → all ≡ ls ++ rs → map f ls ≡ flat_map g cs → map f rs ≡ g c → map f all ≡ flat_map g (cs ++ c ∷ [])
+named_more f g ls rs all cs c is before here =
+    ap (map f) is ∙ map_append f ls rs ∙ ap (λ ns. ns ++ map f rs) before ∙ ap (λ ns. flat_map g cs ++ ns) (here ∙ sym (append_empty (g c)))
+    ∙ sym (flat_map-append g cs (c ∷ []))
 
 known_more : (known : List Known) (xs : List ModuleText) (x : ModuleText) → known_after known (xs ++ x ∷ []) ≡ and_known (known_after known xs) x
 known_more known [] x = refl
@@ -79,6 +84,7 @@ starts s none next known = record {
   linked = record {
     fine = λ k d l. absurd (omega arith);
     judgements_are = ap (λ cs. judgements_of (definitions cs []).stated) none;
+    named = ap (map (λ c. (out-CodeDef c).name)) none;
     numbered = ap (λ cs. map (λ (d : Stated ℕ). d.name) (definitions cs []).stated) none ∙ sym (ap (λ cs. count_from (length (definitions cs []).stated) 0) none);
     next_is = next ∙ sym (ap (λ cs. length (definitions cs []).stated) none);
   };
@@ -162,6 +168,7 @@ module _ (before : List ModuleText) (x : ModuleText) (s : Linker) (h : HasLinked
             ∙ ap (λ js. js ++ judgements_of second.stated) h.linked.judgements_are
             ∙ ap (λ js. judgements before ++ js) (holds.judgements ∙ ap (λ m. judgements_of m.stated) is_meaning)
             ∙ sym judgements_more;
+        named = named_more (λ c. (out-CodeDef c).name) names_in (codes_in s.codes) (codes_in codes) (codes_in new.codes) before x kept.defs_are h.linked.named resolved.named;
         numbered =
             let together = length-append first.stated second.stated in
             let from : count_from (length spelt.stated) scope.next ≡ count_from (length second.stated) (0 + length first.stated) =

@@ -2,6 +2,7 @@
 use Rattle.std.specs.Prelude.{◌≡◌, ◌<◌, ◌++◌, ℕ, List, [], ◌∷◌, bytes_eq, length, take, get_or}
 use Rattle.std.specs.Prelude.{if◌then◌else◌, None}
 use Rattle.std.specs.List.{All, flat_map, list_any}
+use Rattle.layout_lexer.specs.declared.token.Span.{Span}
 use Rattle.syntax.specs.View.{module_of}
 use Rattle.trees.specs.Judgements.{Judgement}
 use Rattle.translation.specs.declared.fault.ScopeFault.{ScopeFault}
@@ -11,7 +12,7 @@ use Rattle.translation.specs.Names.{Word}
 use Rattle.translation.specs.Texts.{Written, block}
 use Rattle.module_texts.specs.declared.text.ModuleText.{ModuleText}
 use Rattle.module_texts.specs.Texts.{name_of, imports_of}
-use Rattle.resolver.specs.Resolved.{defs_of_module}
+use Rattle.resolver.specs.Resolved.{defs_of_module, names_of}
 
 -- a module whose text was translated, with its definitions, the last first
 pub record Known : Type 0 where
@@ -29,6 +30,10 @@ reached (m ∷ before) names =
 
 abbrev pub defs_in : ModuleText → List Written
 defs_in x = defs_of_module x.bytes.items (module_of x.module)
+
+-- where a module names them
+abbrev pub names_in : ModuleText → List Span
+names_in x = names_of x.bytes.items (module_of x.module)
 
 -- what a module means after others: its definitions, in the scope that its imports reach
 abbrev pub meaning_after : List Known → ModuleText → Translated Word (Scope Word)

@@ -22,7 +22,8 @@ use Rattle.session.specs.declared.outcome.Outcome.{Outcome}
 use Rattle.session.specs.declared.outcome.Outcome.TheVariants as outcome
 use Rattle.session.specs.Refusals.{cause_name, place_text, refusal, told_lex, told_read, told_load, told_scope}
 use Rattle.session.specs.Modules.{AreLoaded, NotLoaded, NotResolved, Spells}
-use Rattle.session.specs.Answers.{plain_text, status_of, IsReplayed, MayReplayOf, not_loaded, not_resolved, replayed, OneAnswer}
+use Rattle.session.specs.Outcomes.{plain_text, status_of}
+use Rattle.session.specs.Answers.{IsReplayed, MayReplayOf, not_loaded, not_resolved, replayed, OneAnswer}
 use Rattle.session.proofs.ModuleLaws.{same_judgements, same_name, fine_or_refused, refused_once, IsOfText}
 use Rattle.session.proofs.ExclusionLemmas.{SameAnswer, same_missing, replayed_one}
 

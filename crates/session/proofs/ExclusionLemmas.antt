@@ -10,7 +10,8 @@ use Rattle.edge.specs.Files.{Held, HoldsAt}
 use Rattle.session.specs.declared.outcome.Outcome.{Outcome}
 use Rattle.session.specs.declared.outcome.Outcome.TheVariants as outcome
 use Rattle.session.specs.Modules.{DifferAt}
-use Rattle.session.specs.Answers.{plain_text, status_of, IsFound, IsReplayed, OneVerdict}
+use Rattle.session.specs.Outcomes.{plain_text, status_of}
+use Rattle.session.specs.Answers.{IsFound, IsReplayed, OneVerdict}
 
 pub one_verdict : OneVerdict
 one_verdict bytes (Yes n k) (Yes m l) a b =
@@ -89,18 +90,26 @@ found_one bytes Js (outcome.Refused r) other a b = absurd a
 found_one bytes Js (outcome.MissingFile p) other a b = absurd a
 found_one bytes Js outcome.ReadFault other a b = absurd a
 found_one bytes Js outcome.Usage other a b = absurd a
+found_one bytes Js (outcome.Checked n) other a b = absurd a
+found_one bytes Js outcome.WriteFault other a b = absurd a
 found_one bytes Js (outcome.Judged (Yes n k)) (outcome.Refused r) a b = absurd b
 found_one bytes Js (outcome.Judged (Yes n k)) (outcome.MissingFile p) a b = absurd b
 found_one bytes Js (outcome.Judged (Yes n k)) outcome.ReadFault a b = absurd b
 found_one bytes Js (outcome.Judged (Yes n k)) outcome.Usage a b = absurd b
+found_one bytes Js (outcome.Judged (Yes n k)) (outcome.Checked i) a b = absurd b
+found_one bytes Js (outcome.Judged (Yes n k)) outcome.WriteFault a b = absurd b
 found_one bytes Js (outcome.Judged (No row)) (outcome.Refused r) a b = absurd b
 found_one bytes Js (outcome.Judged (No row)) (outcome.MissingFile p) a b = absurd b
 found_one bytes Js (outcome.Judged (No row)) outcome.ReadFault a b = absurd b
 found_one bytes Js (outcome.Judged (No row)) outcome.Usage a b = absurd b
+found_one bytes Js (outcome.Judged (No row)) (outcome.Checked i) a b = absurd b
+found_one bytes Js (outcome.Judged (No row)) outcome.WriteFault a b = absurd b
 found_one bytes Js (outcome.RootDiffers k) (outcome.Refused r) a b = absurd b
 found_one bytes Js (outcome.RootDiffers k) (outcome.MissingFile p) a b = absurd b
 found_one bytes Js (outcome.RootDiffers k) outcome.ReadFault a b = absurd b
 found_one bytes Js (outcome.RootDiffers k) outcome.Usage a b = absurd b
+found_one bytes Js (outcome.RootDiffers k) (outcome.Checked i) a b = absurd b
+found_one bytes Js (outcome.RootDiffers k) outcome.WriteFault a b = absurd b
 
 verdict_one : (bytes : List ℕ) (one other : Outcome) → IsFound bytes None one → IsFound bytes None other → SameAnswer one other
 verdict_one bytes (outcome.Judged v) (outcome.Judged w) a b = same_answer (outcome.Judged v) (outcome.Judged w) (ap outcome.Judged (one_verdict bytes v w a b))
@@ -109,11 +118,15 @@ verdict_one bytes (outcome.Refused r) other a b = absurd a
 verdict_one bytes (outcome.MissingFile p) other a b = absurd a
 verdict_one bytes outcome.ReadFault other a b = absurd a
 verdict_one bytes outcome.Usage other a b = absurd a
+verdict_one bytes (outcome.Checked n) other a b = absurd a
+verdict_one bytes outcome.WriteFault other a b = absurd a
 verdict_one bytes (outcome.Judged v) (outcome.RootDiffers k) a b = absurd b
 verdict_one bytes (outcome.Judged v) (outcome.Refused r) a b = absurd b
 verdict_one bytes (outcome.Judged v) (outcome.MissingFile p) a b = absurd b
 verdict_one bytes (outcome.Judged v) outcome.ReadFault a b = absurd b
 verdict_one bytes (outcome.Judged v) outcome.Usage a b = absurd b
+verdict_one bytes (outcome.Judged v) (outcome.Checked i) a b = absurd b
+verdict_one bytes (outcome.Judged v) outcome.WriteFault a b = absurd b
 
 either_one : (bytes : List ℕ) (wanted : Option (List Judgement)) (one other : Outcome) → IsFound bytes wanted one → IsFound bytes wanted other → SameAnswer one other
 either_one bytes None one other a b = verdict_one bytes one other a b
@@ -131,6 +144,8 @@ ended held path wanted (outcome.Judged v) n a = found (outcome.Judged v) a.0 a.1
 ended held path wanted (outcome.RootDiffers k) n a = found (outcome.RootDiffers k) a.0 a.1 a.2
 ended held path wanted (outcome.Refused r) n a = found (outcome.Refused r) a.0 a.1 a.2
 ended held path wanted outcome.Usage n a = found outcome.Usage a.0 a.1 a.2
+ended held path wanted (outcome.Checked count) n a = found (outcome.Checked count) a.0 a.1 a.2
+ended held path wanted outcome.WriteFault n a = found outcome.WriteFault a.0 a.1 a.2
 
 ended_one : (held : Held) (path : List ℕ) (wanted : Option (List Judgement)) (one other : Outcome) → Ended held path wanted one → Ended held path wanted other → SameAnswer one other
 ended_one held path wanted _ _ (missing p e h) (missing q e' h') = same_missing p q (e ∙ sym e')

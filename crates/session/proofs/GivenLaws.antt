@@ -201,28 +201,28 @@ empty_slot : (o : Slot) → slot o ≡ None → o ≡ None
 empty_slot None e = refl
 empty_slot (Some w) e = cc
 
-noted_of : (g h : Given) (value : List ℕ) (words : List (List ℕ)) → h.file ≡ g.file → option_map (λ w. w.now) h.of ≡ Some value → meant (slot g.file, Some value) words ≡ meant (given_of h) words
-noted_of g h value words same is = ap (λ f. meant (slot f, Some value) words) (sym same) ∙ ap (λ o. meant (slot h.file, o) words) (sym is)
+noted_of : (g h : Given) (value : List ℕ) (words : List (List ℕ)) → h.positional ≡ g.positional → option_map (λ w. w.now) h.of ≡ Some value → meant (slot g.positional, Some value) words ≡ meant (given_of h) words
+noted_of g h value words same is = ap (λ f. meant (slot f, Some value) words) (sym same) ∙ ap (λ o. meant (slot h.positional, o) words) (sym is)
 
-pub turn_of : (g h : Given) (word value : List ℕ) (words : List (List ℕ)) (fits : Bool) → word_of word ≡ Of → h.file ≡ g.file → Notes value g.of h.of fits → Turns g (word ∷ value ∷ words) h words fits
+pub turn_of : (g h : Given) (word value : List ℕ) (words : List (List ℕ)) (fits : Bool) → word_of word ≡ Of → h.positional ≡ g.positional → Notes value g.of h.of fits → Turns g (word ∷ value ∷ words) h words fits
 turn_of g h word value words true e same n = meant_of (given_of g) word value words e (ap slot n.0) ∙ noted_of g h value words same n.1
 turn_of g h word value words false e same n = meant_of_twice (given_of g) word value words e (λ none. n.0 (empty_slot g.of none))
 
-pub turn_of_is : (g h : Given) (word value : List ℕ) (words : List (List ℕ)) (fits : Bool) → word_of word ≡ OfIs value → h.file ≡ g.file → Notes value g.of h.of fits → Turns g (word ∷ words) h words fits
+pub turn_of_is : (g h : Given) (word value : List ℕ) (words : List (List ℕ)) (fits : Bool) → word_of word ≡ OfIs value → h.positional ≡ g.positional → Notes value g.of h.of fits → Turns g (word ∷ words) h words fits
 turn_of_is g h word value words true e same n = meant_of_is (given_of g) word value words e (ap slot n.0) ∙ noted_of g h value words same n.1
 turn_of_is g h word value words false e same n = meant_of_is_twice (given_of g) word value words e (λ none. n.0 (empty_slot g.of none))
 
-pub turn_file : (g h : Given) (word : List ℕ) (words : List (List ℕ)) (fits : Bool) → word_of word ≡ Positional → h.of ≡ g.of → Notes word g.file h.file fits → Turns g (word ∷ words) h words fits
+pub turn_file : (g h : Given) (word : List ℕ) (words : List (List ℕ)) (fits : Bool) → word_of word ≡ Positional → h.of ≡ g.of → Notes word g.positional h.positional fits → Turns g (word ∷ words) h words fits
 turn_file g h word words true e same n =
     meant_file (given_of g) word words e (ap slot n.0) ∙ (ap (λ o. meant (Some word, slot o) words) (sym same) ∙ ap (λ f. meant (f, slot h.of) words) (sym n.1))
-turn_file g h word words false e same n = meant_file_twice (given_of g) word words e (λ none. n.0 (empty_slot g.file none))
+turn_file g h word words false e same n = meant_file_twice (given_of g) word words e (λ none. n.0 (empty_slot g.positional none))
 
 -- and where all that come are positional
 abbrev pub TurnsRest : Given → List (List ℕ) → Given → List (List ℕ) → Bool → Type 0
 TurnsRest g words h rest true = meant_rest (given_of g) words ≡ meant_rest (given_of h) rest
 TurnsRest g words h rest false = meant_rest (given_of g) words ≡ None
 
-pub turn_rest : (g h : Given) (word : List ℕ) (words : List (List ℕ)) (fits : Bool) → h.of ≡ g.of → Notes word g.file h.file fits → TurnsRest g (word ∷ words) h words fits
+pub turn_rest : (g h : Given) (word : List ℕ) (words : List (List ℕ)) (fits : Bool) → h.of ≡ g.of → Notes word g.positional h.positional fits → TurnsRest g (word ∷ words) h words fits
 turn_rest g h word words true same n =
     rest_file (given_of g) word words (ap slot n.0) ∙ (ap (λ o. meant_rest (Some word, slot o) words) (sym same) ∙ ap (λ f. meant_rest (f, slot h.of) words) (sym n.1))
-turn_rest g h word words false same n = rest_twice (given_of g) word words (λ none. n.0 (empty_slot g.file none))
+turn_rest g h word words false same n = rest_twice (given_of g) word words (λ none. n.0 (empty_slot g.positional none))

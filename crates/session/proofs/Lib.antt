@@ -9,3 +9,5 @@ pub mod LoadedLaws
 pub mod FoundLaws
 pub mod ReplayLaws
 pub mod RunLemmas
+pub mod PlaceLaws
+pub mod CheckLaws

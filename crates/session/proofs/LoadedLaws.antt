@@ -18,12 +18,12 @@ use Rattle.session.specs.declared.outcome.Outcome.{Outcome}
 use Rattle.session.specs.declared.outcome.Outcome.TheVariants as outcome
 use Rattle.session.specs.declared.refusal.Cause.TheVariants as cause
 use Rattle.session.specs.Refusals.{refusal, told_lex, told_read, told_load, told_scope}
-use Rattle.session.specs.Answers.{IsCounted}
+use Rattle.session.specs.Outcomes.{IsCounted}
 
 pub rose : (n : ℕ) → Rose n (one_more n)
 rose n less = grind (arith, nat_tests)
 
-told_is : (old new : SeenFiles) (o told : Outcome) → Some o ≡ Some told → IsCounted old new o → IsCounted old new told
+pub told_is : (old new : SeenFiles) (o told : Outcome) → Some o ≡ Some told → IsCounted old new o → IsCounted old new told
 told_is old new o told e c = let h : o ≡ told = cc in subst (IsCounted old new) h c
 
 lex_counted : (old new : SeenFiles) (f : LexFault) (path : String Global) (told : Outcome) → told_lex f path ≡ Some told → IsCounted old new told

@@ -1,7 +1,6 @@
 -- What a command may answer, and what is then printed.
-use Rattle.std.specs.Prelude.{◌≡◌, ◌≢◌, ◌⊎◌, ℕ, List, ◌++◌, length, None, Some}
-use Rattle.std.specs.Prelude.{codes, decimal, string_bytes, Option}
-use Rattle.edge.specs.Counts.{Rose}
+use Rattle.std.specs.Prelude.{◌≡◌, ◌≢◌, ◌⊎◌, ℕ, List, length, None, Some}
+use Rattle.std.specs.Prelude.{string_bytes, Option}
 use Rattle.edge.specs.Files.{Held, HoldsAt}
 use Rattle.edge.specs.Seen.{SeenFiles, SeenSource, SeenSink}
 use Rattle.trees.specs.Judgements.{Judgement}
@@ -13,49 +12,22 @@ use Rattle.session.specs.declared.outcome.Status.{Status}
 use Rattle.session.specs.declared.outcome.Status.TheVariants as status
 use Rattle.session.specs.declared.outcome.Outcome.{Outcome}
 use Rattle.session.specs.declared.outcome.Outcome.TheVariants as outcome
-use Rattle.session.specs.Words.{Command, Replay}
-use Rattle.session.specs.Refusals.{refusal_text}
+use Rattle.session.specs.Words.{Command, Check, Replay}
+use Rattle.session.specs.Outcomes.{plain_text, status_of, IsCounted, StoresNothing}
 use Rattle.session.specs.Modules.{DifferAt, NotLoaded, NotResolved, Spells}
+use Rattle.session.specs.Checks.{MayCheck, MayLeave}
 use Rattle.session.specs.Writes.{WrittenWhole, CutOff}
-
--- an outcome in plain words
-abbrev pub plain_text : Outcome → List ℕ
-plain_text (outcome.Judged (Yes rows roots)) =
-    codes "yes: " ++ (decimal rows ++ (codes " rows, " ++ (decimal roots ++ codes " roots\n")))
-plain_text (outcome.Judged (No row)) = codes "no: row " ++ (decimal row ++ codes "\n")
-plain_text (outcome.RootDiffers root) = codes "no: root " ++ (decimal root ++ codes "\n")
-plain_text (outcome.Refused refusal) = refusal_text refusal
-plain_text (outcome.MissingFile path) =
-    codes "no: MissingFile in " ++ (string_bytes path ++ codes "\n")
-plain_text outcome.ReadFault = codes "fault: ReadFault\n"
-plain_text outcome.Usage =
-    codes "usage: ctt check MODULE [--turns N] [--json] | replay FILE [--of MODULE] | normal MODULE NAME [--turns N] | prompt MODULE [--turns N] | make N\n"
 
 -- the text that a command prints
 abbrev pub text : Option Command → Outcome → List ℕ
+text (Some (Check name)) result = plain_text result
 text (Some (Replay path of)) result = plain_text result
 text None result = plain_text result
-
--- its status
-abbrev pub status_of : Outcome → Status
-status_of (outcome.Judged (Yes rows roots)) = status.Yes
-status_of (outcome.Judged (No row)) = status.No
-status_of (outcome.RootDiffers root) = status.No
-status_of (outcome.Refused refusal) = status.No
-status_of (outcome.MissingFile path) = status.No
-status_of outcome.ReadFault = status.Fault
-status_of outcome.Usage = status.Usage
 
 -- A text was printed whole, with its status, or a write failed and a prefix of it went out.
 abbrev pub Printed : List ℕ → Status → SeenSink → SeenSink → Status → Type 0
 Printed text whole old new result =
     ((result ≡ whole) × WrittenWhole text old new) ⊎ ((result ≡ status.Fault) × CutOff text old new)
-
--- A file was missing, or could not be read, only where the count of that rose.
-abbrev pub IsCounted : SeenFiles → SeenFiles → Outcome → Type 0
-IsCounted old new (outcome.MissingFile path) = Rose old.counts.misses new.counts.misses
-IsCounted old new outcome.ReadFault = Rose old.counts.fetch_faults new.counts.fetch_faults
-IsCounted old new result = Unit {0}
 
 -- What may be said of the bytes of a file, where its roots may be wanted to be these: yes exactly
 -- where all rows are right and the roots are these.
@@ -96,14 +68,11 @@ MayAnswerNone result = ⊥
 
 -- when a command may end so
 abbrev pub MayAnswer : Option Command → SeenFiles → SeenFiles → Outcome → Type 0
+MayAnswer (Some (Check name)) old new result =
+    MayCheck name old new result × IsCounted old new result
 MayAnswer (Some (Replay path of)) old new result =
     MayReplay old.held path of result × IsCounted old new result
 MayAnswer None old new result = MayAnswerNone result
-
--- each path holds what it did, and no store was tried that failed
-abbrev pub StoresNothing : SeenFiles → SeenFiles → Type 0
-StoresNothing old new =
-    (new.held ≡ old.held) × (new.counts.store_faults ≡ old.counts.store_faults)
 
 -- files, an input and an output
 pub record World (F I O : Type 0) : Type 0 where
@@ -126,16 +95,19 @@ pub record Answered (command : Option Command) (old new : Seen) (result : Status
 
 -- what a command may do to the files: words that are no command leave them alone
 abbrev pub MayStore : {F : Type 0} → (F → SeenFiles) → Option Command → F → F → Type 0
+MayStore see (Some (Check name)) old new = MayLeave name (see old) (see new)
 MayStore see (Some (Replay path of)) old new = StoresNothing (see old) (see new)
 MayStore see None old new = new ≡ old
 
 -- what a command may read of the input
 abbrev pub MayRead : {I : Type 0} → (I → SeenSource) → Option Command → I → I → Type 0
+MayRead see (Some (Check name)) old new = new ≡ old
 MayRead see (Some (Replay path of)) old new = new ≡ old
 MayRead see None old new = new ≡ old
 
 -- what a command may have printed before it was out of memory
 abbrev pub MayPrintBefore : {O : Type 0} → (O → SeenSink) → Option Command → O → O → Type 0
+MayPrintBefore see (Some (Check name)) old new = new ≡ old
 MayPrintBefore see (Some (Replay path of)) old new = new ≡ old
 MayPrintBefore see None old new = new ≡ old
 

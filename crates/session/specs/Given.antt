@@ -12,7 +12,7 @@ Notes word old new false = (old ≢ None) × (new ≡ old)
 
 -- the positional word and the value of `--of`
 abbrev pub given_of : Given → Option (List ℕ) × Option (List ℕ)
-given_of g = (option_map (λ w. w.now) g.file, option_map (λ w. w.now) g.of)
+given_of g = (option_map (λ w. w.now) g.positional, option_map (λ w. w.now) g.of)
 
 -- of sorted words, where each stands once at most
 abbrev pub once_each : Sorted → Option (Option (List ℕ) × Option (List ℕ))

@@ -2,6 +2,8 @@ pub mod Words
 pub mod Given
 pub mod Writes
 pub mod Refusals
+pub mod Outcomes
 pub mod Modules
 pub mod Answers
 pub mod Loaded
+pub mod Checks

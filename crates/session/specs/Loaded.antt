@@ -7,29 +7,32 @@ use Rattle.trees.specs.Judgements.{Judgement}
 use Rattle.translation.specs.Translated.{Stated, judgements_of}
 use Rattle.codes.specs.declared.code.CodeDef.{CodeDef}
 use Rattle.codes.specs.Codes.{definitions}
+use Rattle.edge.specs.Files.{Held}
 use Rattle.edge.specs.Seen.{SeenFiles}
-use Rattle.module_texts.specs.declared.text.ModuleText.{ModuleText}
-use Rattle.resolver.specs.declared.resolving.Codes.{Codes}
 use Rattle.resolver.specs.Resolved.{defs_in}
 use Rattle.linking.specs.Linked.{IsLinked}
 use Rattle.session.specs.declared.outcome.Outcome.{Outcome}
+use Rattle.session.specs.declared.program.Program.{Program}
 use Rattle.session.specs.Modules.{AreLoaded, NotLoaded, NotResolved}
-use Rattle.session.specs.Answers.{IsCounted}
+use Rattle.session.specs.Outcomes.{IsCounted}
 
 abbrev pub stated_by : List CodeDef → List (Stated ℕ)
 stated_by defs = (definitions defs []).stated
 
-abbrev pub codes_of : Option (Bor Codes) → Option (List CodeDef)
-codes_of = option_map (λ codes. defs_in codes.now)
+abbrev pub codes_of : Option (Bor Program) → Option (List CodeDef)
+codes_of = option_map (λ program. defs_in program.now.codes)
 
 -- the judgements that are wanted of a file
 abbrev pub wanted_by : Option (List CodeDef) → Option (List Judgement)
 wanted_by = option_map (λ defs. judgements_of (stated_by defs))
 
--- What is read for a module of that name: its definitions, or how that ended.
-abbrev pub IsProgram : List ℕ → SeenFiles → SeenFiles → Result Codes Outcome → Type 0
-IsProgram name old new (Ok codes) =
-    (new.counts ≡ old.counts)
-    × ((texts : List ModuleText) × AreLoaded old.held name texts × IsLinked texts codes)
+-- these are the modules that are loaded for one of that name, and their definitions
+pub record IsRead (held : Option Held) (name : List ℕ) (program : Program) : Type 0 where
+  pub loaded : AreLoaded held name program.texts.items
+  pub linked : IsLinked program.texts.items program.codes
+
+-- what is read for a module of that name, or how that ended
+abbrev pub IsProgram : List ℕ → SeenFiles → SeenFiles → Result Program Outcome → Type 0
+IsProgram name old new (Ok program) = (new.counts ≡ old.counts) × IsRead old.held name program
 IsProgram name old new (Err told) =
     (NotLoaded old.held name told ⊎ NotResolved old.held name told) × IsCounted old new told

@@ -17,6 +17,8 @@ use Rattle.session.specs.declared.words.Word.TheVariants as read_word
 
 -- a command, with its positional words and the values of its options
 pub data Command : Type 0 where
+  -- a module, which is checked
+  Check : List ℕ → Command
   -- a file, and the module whose derivation it is to be
   Replay : List ℕ → Option (List ℕ) → Command
 
@@ -98,15 +100,23 @@ replay_of (Some (c ∷ file)) (Some name) =
     if is_module_name name then Some (Replay (c ∷ file) (Some name)) else None
 replay_of _ of = None
 
-abbrev pub replay_words : Sorted → Option Command
-replay_words s =
-    option_and_then (λ file. option_and_then (replay_of file) (once s.of)) (once s.positional)
+-- `check` of a module
+abbrev pub check_of : Option (List ℕ) → Option (List ℕ) → Option Command
+check_of (Some name) None = if is_module_name name then Some (Check name) else None
+check_of _ of = None
+
+-- what is made of one positional word and one value of `--of`, where they are given
+abbrev pub made_of : (Option (List ℕ) → Option (List ℕ) → Option Command) → Sorted → Option Command
+made_of make s =
+    option_and_then (λ word. option_and_then (make word) (once s.of)) (once s.positional)
 
 -- the command of these words
 abbrev pub command : List (List ℕ) → Option Command
 command [] = None
 command (name ∷ words) =
-    if bytes_eq name (codes "replay") then option_and_then replay_words (sorted false words)
+    if bytes_eq name (codes "check") then option_and_then (made_of check_of) (sorted false words)
+    else if bytes_eq name (codes "replay") then
+    option_and_then (made_of replay_of) (sorted false words)
     else None
 
 -- the bytes of words
@@ -115,6 +125,7 @@ texts words = map string_bytes words
 
 -- what a command that was read is
 abbrev pub command_read : ReadCommand → Command
+command_read (read.Check name) = Check name.now
 command_read (read.Replay path of) = Replay path.now (option_map (λ name. name.now) of)
 
 -- and a word

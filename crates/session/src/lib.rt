@@ -6,7 +6,9 @@
 //! `two.drv`, `out` takes `yes: 13 rows, 2 roots` and the status is `Status::Yes`.
 #![tactic(auto)]
 
+mod check_command;
 mod outcome;
+mod program;
 mod refusal;
 mod replay_command;
 mod roots;

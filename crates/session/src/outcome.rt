@@ -1,6 +1,7 @@
 // How commands end, the texts of that and the statuses.
 ghost use Rattle.std.specs.Prelude.{◌≡◌, IfOk, string_bytes};
-ghost use Rattle.session.specs.Answers.{plain_text, status_of, OneVerdict, OneAnswer};
+ghost use Rattle.session.specs.Answers.{OneVerdict, OneAnswer};
+ghost use Rattle.session.specs.Outcomes.{plain_text, status_of};
 
 use crate::refusal::Refusal;
 use replay::Verdict;
@@ -36,6 +37,10 @@ pub(crate) enum Outcome {
     MissingFile(String),
     /// A file could not be read.
     ReadFault,
+    /// All of a module's definitions are right, and those of its imports: so many.
+    Checked(u64),
+    /// A file could not be stored.
+    WriteFault,
     /// The words are no command.
     Usage,
 }
@@ -55,6 +60,8 @@ impl Outcome {
             Outcome::Refused(_) => Status::No,
             Outcome::MissingFile(_) => Status::No,
             Outcome::ReadFault => Status::Fault,
+            Outcome::Checked(_) => Status::Yes,
+            Outcome::WriteFault => Status::Fault,
             Outcome::Usage => Status::Usage,
         }
     }
@@ -72,6 +79,8 @@ impl Outcome {
             Outcome::Refused(refusal) => refusal.text(alloc),
             Outcome::MissingFile(path) => format!(in alloc; "no: MissingFile in {path}\n"),
             Outcome::ReadFault => String::from_str(alloc, "fault: ReadFault\n"),
+            Outcome::Checked(count) => format!(in alloc; "yes: {count} definitions\n"),
+            Outcome::WriteFault => String::from_str(alloc, "fault: WriteFault\n"),
             Outcome::Usage => String::from_str(alloc, USAGE),
         }
     }

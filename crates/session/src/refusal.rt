@@ -1,4 +1,4 @@
-//! Why a module is refused before it is checked.
+//! Why a module is refused.
 
 ghost use Rattle.std.specs.Prelude.{◌≡◌, IfOk, Some, string_bytes};
 ghost use Rattle.session.specs.Refusals.{cause_name, refusal, told_lex, told_load, told_read};
@@ -11,7 +11,7 @@ use loading::LoadFault;
 use resolver::ScopeFault;
 use std::alloc::{AllocError, Global};
 
-/// Why a module is refused before it is checked.
+/// Why a module is refused.
 #[derive(Clone, Copy, Debug, PartialEq, Eq)]
 pub(crate) enum Cause {
     /// No character of UTF-8 begins at the place.
@@ -24,7 +24,8 @@ pub(crate) enum Cause {
     TooLong,
     /// No module begins with the tokens up to the one at the place.
     Unexpected,
-    /// At the place stands a word that no module has.
+    /// At the place stands a word that no module has, or the name of a definition that is not
+    /// direct.
     RefusedForm,
     /// At the place begins the first thing at depth 513.
     TooDeep,
@@ -89,7 +90,7 @@ impl Refusal {
 }
 
 /// The text at the path is refused.
-fn refused(cause: Cause, at: Option<u32>, path: String) -> Outcome
+pub(crate) fn refused(cause: Cause, at: Option<u32>, path: String) -> Outcome
     ensures { result ≡ refusal cause at path }
 {
     Outcome::Refused(Refusal { cause, at, path })

@@ -133,7 +133,7 @@ fn replay_wants_the_last_newline(rt: HostRuntime) -> Result<(), AllocError> {
 #[test]
 fn files_and_output_fail(rt: HostRuntime) -> Result<(), AllocError> {
     let missing = "no: MissingFile in a.drv\n";
-    let cases: [(&str, &[u64], &[u64], usize, (&str, Status)); 6] = [
+    let cases: [(&str, &[u64], &[u64], usize, (&str, Status)); 7] = [
         ("replay a.drv", &[], &[], 1000, (missing, Status::No)),
         ("replay a.drv", &[], &[], 5, ("no: M", Status::Fault)),
         ("replay a.drv", &[], &[0], 1000, ("", Status::Fault)),
@@ -146,14 +146,20 @@ fn files_and_output_fail(rt: HostRuntime) -> Result<(), AllocError> {
         ),
         ("replay two.drv", &[], &[], 5, ("no: r", Status::Fault)),
         ("help", &[], &[0], 1000, ("", Status::Fault)),
+        (
+            "check M",
+            &[1],
+            &[],
+            1000,
+            ("fault: WriteFault\n", Status::Fault),
+        ),
     ];
     for (text, fetches, writes, room, prints) in cases {
         let place = Place {
-            text: "",
-            module: "",
             fetches,
             writes,
             room,
+            ..sound("")
         };
         assert_prints(
             &rt,
@@ -189,8 +195,11 @@ fn other_words_are_no_command(rt: HostRuntime) -> Result<(), AllocError> {
         "replay two.drv -- --of M",
         "replay two.drv -x",
         "-- replay two.drv",
-        "check two",
-        "check two --turns 5",
+        "check",
+        "check M N",
+        "check M.ctt",
+        "check data",
+        "check M --of N",
         "normal two one two three four five",
     ] {
         let words = words_of(rt.alloc(), text)?;
@@ -213,41 +222,115 @@ fn two_dashes_make_every_later_word_positional(rt: HostRuntime) -> Result<(), Al
     Ok(())
 }
 
-/// Module texts, and what a replay of the thirteen rows for them prints.
-const MODULES: [(&str, &str); 9] = [
-    ("two : nat = suc (suc zero)", "yes: 13 rows, 2 roots\n"),
+/// Module texts, what a replay of the thirteen rows for them prints, and what a check of them.
+const MODULES: [(&str, &str, &str); 11] = [
+    (
+        "two : nat = suc (suc zero)",
+        "yes: 13 rows, 2 roots\n",
+        "yes: 1 definitions\n",
+    ),
     (
         "two : nat = let one : nat = suc zero in suc one",
         "no: root 1\n",
+        "yes: 1 definitions\n",
     ),
-    ("two : nat = suc zero", "no: root 1\n"),
-    ("two : U = nat", "no: root 0\n"),
-    ("", "no: root 0\n"),
     (
-        "two : nat = suc (suc zero)\nthree : nat = zero",
-        "no: root 2\n",
+        "two : nat = suc zero",
+        "no: root 1\n",
+        "yes: 1 definitions\n",
     ),
-    ("data bool = tt | ff", "no: RefusedForm at 15 in M.ctt\n"),
-    ("a : nat = a", "no: Unbound at 25 in M.ctt\n"),
-    ("import Z", "no: MissingFile in Z.ctt\n"),
+    ("two : U = nat", "no: root 0\n", "yes: 1 definitions\n"),
+    ("", "no: root 0\n", "yes: 0 definitions\n"),
+    (
+        "two : nat = suc (suc zero)\nthree : nat = suc two",
+        "no: root 2\n",
+        "yes: 2 definitions\n",
+    ),
+    (
+        "bad : nat = nat",
+        "no: root 1\n",
+        "no: RefusedForm at 15 in M.ctt\n",
+    ),
+    (
+        "one : nat = zero\nbad : nat = nat\nworse : nat = U",
+        "no: root 1\n",
+        "no: RefusedForm at 32 in M.ctt\n",
+    ),
+    (
+        "data bool = tt | ff",
+        "no: RefusedForm at 15 in M.ctt\n",
+        "no: RefusedForm at 15 in M.ctt\n",
+    ),
+    (
+        "a : nat = a",
+        "no: Unbound at 25 in M.ctt\n",
+        "no: Unbound at 25 in M.ctt\n",
+    ),
+    (
+        "import Z",
+        "no: MissingFile in Z.ctt\n",
+        "no: MissingFile in Z.ctt\n",
+    ),
 ];
+
+/// The status of what is printed.
+fn status_of(printed: &str) -> Status {
+    if printed.starts_with("yes") {
+        Status::Yes
+    } else {
+        Status::No
+    }
+}
 
 #[test]
 fn roots_are_those_of_the_module(rt: HostRuntime) -> Result<(), AllocError> {
     let text = lines(rt.alloc(), &TWO)?;
-    let words = words_of(rt.alloc(), "replay two.drv --of M")?;
-    for (defs, printed) in MODULES {
+    let replay = words_of(rt.alloc(), "replay two.drv --of M")?;
+    let check = words_of(rt.alloc(), "check M")?;
+    for (defs, replayed, checked) in MODULES {
         let module = format!(in rt.alloc(); "module M where\n{defs}\n")?;
         let place = Place {
             module: module.as_str(),
             ..sound(text.as_str())
         };
-        let status = if printed.starts_with("yes") {
-            Status::Yes
-        } else {
-            Status::No
-        };
-        assert_prints(&rt, rt.alloc(), &words, &place, (printed, status))?;
+        for (words, printed) in [(&replay, replayed), (&check, checked)] {
+            let prints = (printed, status_of(printed));
+            assert_prints(&rt, rt.alloc(), words, &place, prints)?;
+        }
+    }
+    Ok(())
+}
+
+// What `check` stores is what `replay` finds right; an import's refusal is told at its own place.
+#[test]
+fn a_derivation_is_replayed(rt: HostRuntime) -> Result<(), AllocError> {
+    let mut files = MemFiles::new(rt.alloc(), &[])?;
+    files.put("M.ctt", b"module M where\nimport N\ntwo : nat = suc one")?;
+    let mut input = MemSource::new(rt.alloc(), &[], &[])?;
+    for (module, commands) in [
+        (
+            "module N where\none : nat = suc zero",
+            [
+                ("check M", "yes: 2 definitions\n"),
+                ("replay M.drv --of M", "yes: 15 rows, 4 roots\n"),
+            ],
+        ),
+        (
+            "module N where\none : nat = nat",
+            [
+                ("check M", "no: RefusedForm at 15 in N.ctt\n"),
+                ("replay M.drv", "yes: 15 rows, 4 roots\n"),
+            ],
+        ),
+    ] {
+        files.put("N.ctt", module.as_bytes())?;
+        for (text, printed) in commands {
+            let words = words_of(rt.alloc(), text)?;
+            let mut out = MemSink::new(rt.alloc(), 1000, &[])?;
+            let ends = run(rt.alloc(), &words, &mut files, &mut input, &mut out);
+            assert_eq!(rt; out.as_slice(), printed.as_bytes(), "wanted {printed}");
+            assert_eq!(rt; ends, status_of(printed), "after {printed}");
+        }
     }
     Ok(())
 }

@@ -1,11 +1,12 @@
 // The top call: it does what the words ask for, and prints how that ended.
 ghost use Rattle.std.specs.Prelude.{◌≡◌, ◌≢◌, [], IfOk};
 ghost use Rattle.edge.specs.Seen.{seen_files, seen_source, seen_sink};
-ghost use Rattle.session.specs.Answers.{plain_text, status_of, MayAnswer};
-ghost use Rattle.session.specs.Answers.{MayStore, Printed, Ran, world};
+ghost use Rattle.session.specs.Answers.{MayAnswer, MayStore, Printed, Ran, world};
+ghost use Rattle.session.specs.Outcomes.{plain_text, status_of};
 ghost use Rattle.session.specs.Words.{command, texts};
 ghost use Rattle.session.specs.Writes.{Wrote, WroteSome};
 
+use crate::check_command::check;
 use crate::outcome::{Outcome, Status};
 use crate::replay_command::replay;
 use crate::words::{Command, command_of};
@@ -68,6 +69,7 @@ fn outcome_of<F: Files>(
         files.old files.new }
 {
     match command_of(alloc, words)? {
+        Some(Command::Check(name)) => Ok(check(alloc, name, files)?),
         Some(Command::Replay(path, of)) => Ok(replay(alloc, path, of, files)?),
         None => Ok(Outcome::Usage),
     }

@@ -2,7 +2,8 @@
 
 ghost use Rattle.std.specs.Prelude.{◌≡◌, IfOk, false};
 ghost use Rattle.std.specs.Option.{option_and_then, option_map};
-ghost use Rattle.session.specs.Words.{command, command_read, is_dashed, is_module_name, sorted};
+ghost use Rattle.session.specs.Words.{check_of, command, command_read, is_dashed, is_module_name};
+ghost use Rattle.session.specs.Words.{made_of, replay_of, sorted};
 ghost use Rattle.session.specs.Words.{texts, word_of, word_read};
 ghost use Rattle.session.specs.Given.{Notes, given_of, once_each};
 
@@ -12,6 +13,8 @@ use std::alloc::{AllocError, Global};
 /// What the words ask for.
 #[derive(Clone, Copy)]
 pub(crate) enum Command<'a> {
+    /// `check MODULE`: to check the module of this name as it stands.
+    Check(&'a str),
     /// `replay FILE`, or `replay FILE --of MODULE`: to judge the derivation file at the path, and
     /// whether its roots are the judgements of the module.
     Replay(&'a str, Option<&'a str>),
@@ -61,7 +64,7 @@ fn word_of(word: &str) -> Word<'_>
 /// The positional word and the value of `--of`, where they are given.
 #[derive(Clone, Copy)]
 struct Given<'a> {
-    file: Option<&'a str>,
+    positional: Option<&'a str>,
     of: Option<&'a str>,
 }
 
@@ -82,7 +85,7 @@ fn sort_words(words: &[String]) -> Option<Given<'_>>
         ≡ option_and_then once_each (sorted false (texts words.now)) }
 {
     let mut given = Given {
-        file: None,
+        positional: None,
         of: None,
     };
     let mut rest = words;
@@ -99,14 +102,14 @@ fn sort_words(words: &[String]) -> Option<Given<'_>>
             },
             Word::OfIs(value) => note(&mut given.of, value),
             Word::Unknown => false,
-            Word::Positional => note(&mut given.file, word.as_str()),
+            Word::Positional => note(&mut given.positional, word.as_str()),
         };
         if !fits {
             return None;
         }
     }
     for word in rest {
-        if !note(&mut given.file, word.as_str()) {
+        if !note(&mut given.positional, word.as_str()) {
             return None;
         }
     }
@@ -130,22 +133,34 @@ fn is_module_name(alloc: Global, word: &str) -> Result<bool, AllocError>
     }
 }
 
-/// The command that the words are, if any. The only error is out of memory.
-pub(crate) fn command_of(alloc: Global, words: &[String]) -> Result<Option<Command<'_>>, AllocError>
-    ensures { IfOk result (λ found. option_map command_read found ≡ command (texts words.now)) }
+/// `check` with the words after it, where these are the name of a module.
+fn check_of(alloc: Global, words: &[String]) -> Result<Option<Command<'_>>, AllocError>
+    ensures { IfOk result (λ found. option_map command_read found
+        ≡ option_and_then (made_of check_of) (sorted false (texts words.now))) }
 {
-    let [name, rest @ ..] = words else {
-        return Ok(None);
-    };
-    if name.as_str() != "replay" {
-        return Ok(None);
+    match sort_words(words) {
+        Some(
+            Given {
+                positional: Some(name),
+                of: None,
+            },
+        ) if is_module_name(alloc, name)? => Ok(Some(Command::Check(name))),
+        _ => Ok(None),
     }
+}
+
+/// `replay` with the words after it, where these are a file, and the name of a module if one is
+/// given.
+fn replay_of(alloc: Global, words: &[String]) -> Result<Option<Command<'_>>, AllocError>
+    ensures { IfOk result (λ found. option_map command_read found
+        ≡ option_and_then (made_of replay_of) (sorted false (texts words.now))) }
+{
     let Some(
         Given {
-            file: Some(file),
+            positional: Some(file),
             of,
         },
-    ) = sort_words(rest)
+    ) = sort_words(words)
     else {
         return Ok(None);
     };
@@ -158,4 +173,18 @@ pub(crate) fn command_of(alloc: Global, words: &[String]) -> Result<Option<Comma
         }
     }
     Ok(Some(Command::Replay(file, of)))
+}
+
+/// The command that the words are, if any. The only error is out of memory.
+pub(crate) fn command_of(alloc: Global, words: &[String]) -> Result<Option<Command<'_>>, AllocError>
+    ensures { IfOk result (λ found. option_map command_read found ≡ command (texts words.now)) }
+{
+    let [name, rest @ ..] = words else {
+        return Ok(None);
+    };
+    match name.as_str() {
+        "check" => check_of(alloc, rest),
+        "replay" => replay_of(alloc, rest),
+        _ => Ok(None),
+    }
 }

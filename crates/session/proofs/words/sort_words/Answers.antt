@@ -39,13 +39,13 @@ turn c =
           let first : texts ys ≡ value ∷ texts rest = begins_with ys rest w.value-item.result value at_least w.value-item.is w.as_str-in-len1-up-rest.ensures.value left in
           let n = noted value g.of h.of w.note.new.slot fits w.note.result (ap (λ (x : Given). x.of) w.given-is) w.fits-is w.note.ensures in
           subst (λ ws. Turns g ws h (texts rest) fits) (sym (begun ∙ ap (λ ws. word ∷ ws) first))
-          (turn_of g h word value (texts rest) fits e (ap (λ (x : Given). x.file) w.given-is) n)
+          (turn_of g h word value (texts rest) fits e (ap (λ (x : Given). x.positional) w.given-is) n)
       | in-OfIs w ↦
           let e : word_of word ≡ OfIs w.in-OfIs.value.now = sym w.in-OfIs.ensures in
           let left : rest ≡ ys = ap (λ (b : Bor Words). b.now) w.rest-is in
           let n = noted w.in-OfIs.value.now g.of h.of w.note-fits.new.slot fits w.note-fits.result (ap (λ (x : Given). x.of) w.given-is) w.fits-is w.note-fits.ensures in
           subst (λ ws. Turns g ws h (texts rest) fits) (sym (begun ∙ ap (λ vs. word ∷ texts vs) (sym left)))
-          (turn_of_is g h word w.in-OfIs.value.now (texts rest) fits e (ap (λ (x : Given). x.file) w.given-is) n)
+          (turn_of_is g h word w.in-OfIs.value.now (texts rest) fits e (ap (λ (x : Given). x.positional) w.given-is) n)
       | in-Unknown w ↦
           let e : word_of word ≡ Unknown = sym w.in-Unknown.ensures in
           subst (λ f. Turns g (texts xs) h (texts rest) f) (sym w.fits-is)
@@ -55,9 +55,9 @@ turn c =
           let left : rest ≡ ys = ap (λ (b : Bor Words). b.now) w.rest-is in
           let other = w.as_str-in-Positional.result.now in
           let same : other ≡ word = w.as_str-in-Positional.ensures.value ∙ sym c.as_str.ensures.value in
-          let n = noted other g.file h.file w.note-fits-in-Positional.new.slot fits w.note-fits-in-Positional.result (ap (λ (x : Given). x.file) w.given-is) w.fits-is w.note-fits-in-Positional.ensures in
+          let n = noted other g.positional h.positional w.note-fits-in-Positional.new.slot fits w.note-fits-in-Positional.result (ap (λ (x : Given). x.positional) w.given-is) w.fits-is w.note-fits-in-Positional.ensures in
           subst (λ ws. Turns g ws h (texts rest) fits) (sym (begun ∙ ap (λ vs. word ∷ texts vs) (sym left)))
-          (turn_file g h word (texts rest) fits e (ap (λ (x : Given). x.of) w.given-is) (subst (λ v. Notes v g.file h.file fits) same n))
+          (turn_file g h word (texts rest) fits e (ap (λ (x : Given). x.of) w.given-is) (subst (λ v. Notes v g.positional h.positional fits) same n))
     ]
 
 less : (c : Joined-word_of) → length c.match-word_of.rest.now < length c.loop-rest.rest.now
@@ -127,7 +127,7 @@ offset_bounds-word-items-word-index c = omega (arith, c.well_formed.0.1, c.loop-
 
 -- after a word of the rest
 abbrev RestTurns : After-note-in-loop-word → Bool → Type 0
-RestTurns c = TurnsRest c.loop-word.given (texts (drop c.loop-word.word-index c.if-rest-lt1.rest.now)) (record { file = c.note-in-loop-word.new.slot; of = c.loop-word.given.of }) (texts (drop (c.loop-word.word-index + 1) c.if-rest-lt1.rest.now))
+RestTurns c = TurnsRest c.loop-word.given (texts (drop c.loop-word.word-index c.if-rest-lt1.rest.now)) (record { positional = c.note-in-loop-word.new.slot; of = c.loop-word.given.of }) (texts (drop (c.loop-word.word-index + 1) c.if-rest-lt1.rest.now))
 
 turn_of_rest : (c : After-note-in-loop-word) → RestTurns c c.note-in-loop-word.result
 turn_of_rest c =
@@ -135,7 +135,7 @@ turn_of_rest c =
     let i = c.loop-word.word-index in
     let word = c.as_str-in-loop-word.result.now in
     let g = c.loop-word.given in
-    let h : Given = record { file = c.note-in-loop-word.new.slot; of = g.of } in
+    let h : Given = record { positional = c.note-in-loop-word.new.slot; of = g.of } in
     let rest = texts (drop (i + 1) ws) in
     let first : texts (drop i ws) ≡ word ∷ rest = next_of ws i c.word-item-in-loop-word.result (omega (arith, c.loop-word-test.true)) c.word-item-in-loop-word.is ∙ ap (λ v. v ∷ rest) (sym c.as_str-in-loop-word.ensures.value) in
     subst (λ vs. TurnsRest g vs h rest c.note-in-loop-word.result) (sym first) (turn_rest g h word rest c.note-in-loop-word.result refl c.note-in-loop-word.ensures)

@@ -3,7 +3,7 @@ use Rattle.edge.specs.Seen.{seen_files}
 use Rattle.module_texts.specs.Texts.{path_of}
 use Rattle.linking.specs.Modules.{RefusedFirst}
 use Rattle.session.proofs.LoadedLaws.{load_counted, scope_counted, is_told, stands_at}
-use Rattle.session.proofs.replay_command.program.Goals as goal
+use Rattle.session.proofs.program.read_program.Goals as goal
 
 pub returns-in-Err-clause-program : goal.returns-in-Err-clause-program
 returns-in-Err-clause-program g c =
@@ -15,8 +15,8 @@ returns-in-Err-clause-program g c =
       load_counted c.load.result (see c.args.files.now) (see c.load.new.files) f told c.in-Err.is c.load.ensures.counted is,
     )
 
-pub returns-clause-program : goal.returns-clause-program
-returns-clause-program g c =
+pub returns-in_ok-of_scope-in-Err-link-clause-program : goal.returns-in_ok-of_scope-in-Err-link-clause-program
+returns-in_ok-of_scope-in-Err-link-clause-program g c =
     let see = seen_files g.F.Files.held g.F.Files.counts in
     let xs = c.in-Ok.texts.items in
     let f = c.in-Err-link.refused.fault in

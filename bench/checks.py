@@ -1,0 +1,85 @@
+#!/usr/bin/env python3
+"""Times `ctt check` and `ctt replay --of` on modules of N direct definitions.
+
+usage: python3 bench/checks.py PROGRAM [SHAPE ..] [N ..]
+
+`before`: each definition is the successor of the one before. `first`: each is that of the first one. `lambdas`: each is a function
+of thirty numbers, written as a lambda in a lambda. `teles`: each has a tele of thirty names. A line tells the milliseconds of `check`, each the
+best of three runs, the definitions a second, the bytes of the derivation a definition, the peak of memory, and the milliseconds
+of `replay --of`.
+"""
+
+import os
+import pathlib
+import subprocess
+import sys
+import tempfile
+import time
+
+RUNS = 3
+DEEP = 30
+VARIABLES = [f"x{at}" for at in range(DEEP)]
+
+
+def before(at):
+    return f"d{at} : nat = {f'suc d{at - 1}' if at else 'zero'}"
+
+
+def first(at):
+    return f"d{at} : nat = {'suc d0' if at else 'zero'}"
+
+
+def lambdas(at):
+    names = "".join(f"\\({name} : nat) -> " for name in VARIABLES)
+    return f"d{at} : {'nat -> ' * DEEP}nat = {names}suc x{at % DEEP}"
+
+
+def teles(at):
+    return f"d{at} ({' '.join(VARIABLES)} : nat) : nat = suc x{at % DEEP}"
+
+
+SHAPES = {"before": before, "first": first, "lambdas": lambdas, "teles": teles}
+
+
+def run(program, folder, *words):
+    """The answer of one run, its seconds, and the peak of its memory in bytes."""
+    start = time.perf_counter()
+    started = subprocess.Popen([program, *words], cwd=folder, stdout=subprocess.PIPE, text=True)
+    answer = started.stdout.read()
+    _, status, usage = os.wait4(started.pid, 0)
+    started.returncode = os.waitstatus_to_exitcode(status)
+    return answer, time.perf_counter() - start, usage.ru_maxrss * 1024
+
+
+def best(program, folder, *words):
+    runs = [run(program, folder, *words) for _ in range(RUNS)]
+    return runs[0][0], min(seconds for _, seconds, _ in runs), max(peak for _, _, peak in runs)
+
+
+def measure(program, folder, shape, count):
+    lines = ["module Bench where", *(SHAPES[shape](at) for at in range(count))]
+    pathlib.Path(folder, "Bench.ctt").write_text("".join(line + "\n" for line in lines))
+    answer, seconds, peak = best(program, folder, "check", "Bench")
+    if answer != f"yes: {count} definitions\n":
+        sys.exit(f"{shape} {count}: {answer}")
+    size = pathlib.Path(folder, "Bench.drv").stat().st_size
+    judged, replayed, _ = best(program, folder, "replay", "Bench.drv", "--of", "Bench")
+    if not judged.startswith("yes"):
+        sys.exit(f"{shape} {count}: replay: {judged}")
+    print(f"{shape} {count}: check {seconds * 1000:.1f} ms, {count / seconds:.0f} definitions a second, "
+          f"{size / count:.0f} bytes a definition, {peak / 1e6:.0f} MB; replay {replayed * 1000:.1f} ms")
+
+
+def main():
+    words = sys.argv[2:]
+    shapes = [word for word in words if word in SHAPES] or list(SHAPES)
+    counts = [int(word) for word in words if word.isdigit()] or [100, 1000, 10000]
+    program = os.path.abspath(sys.argv[1])
+    with tempfile.TemporaryDirectory() as folder:
+        for shape in shapes:
+            for count in counts:
+                measure(program, folder, shape, count)
+
+
+if __name__ == "__main__":
+    main()

@@ -1,0 +1,49 @@
+-- What outcomes are in print, and what is counted and stored.
+use Rattle.std.specs.Prelude.{◌≡◌, ℕ, List, ◌++◌, codes, decimal, string_bytes}
+use Rattle.edge.specs.Counts.{Rose}
+use Rattle.edge.specs.Seen.{SeenFiles}
+use Rattle.replay.specs.declared.judging.Verdict.TheVariants.{Yes, No}
+use Rattle.session.specs.declared.outcome.Status.{Status}
+use Rattle.session.specs.declared.outcome.Status.TheVariants as status
+use Rattle.session.specs.declared.outcome.Outcome.{Outcome}
+use Rattle.session.specs.declared.outcome.Outcome.TheVariants as outcome
+use Rattle.session.specs.Refusals.{refusal_text}
+
+-- an outcome in plain words
+abbrev pub plain_text : Outcome → List ℕ
+plain_text (outcome.Judged (Yes rows roots)) =
+    codes "yes: " ++ (decimal rows ++ (codes " rows, " ++ (decimal roots ++ codes " roots\n")))
+plain_text (outcome.Judged (No row)) = codes "no: row " ++ (decimal row ++ codes "\n")
+plain_text (outcome.RootDiffers root) = codes "no: root " ++ (decimal root ++ codes "\n")
+plain_text (outcome.Refused refusal) = refusal_text refusal
+plain_text (outcome.MissingFile path) =
+    codes "no: MissingFile in " ++ (string_bytes path ++ codes "\n")
+plain_text outcome.ReadFault = codes "fault: ReadFault\n"
+plain_text (outcome.Checked count) = codes "yes: " ++ (decimal count ++ codes " definitions\n")
+plain_text outcome.WriteFault = codes "fault: WriteFault\n"
+plain_text outcome.Usage =
+    codes "usage: ctt check MODULE [--turns N] [--json] | replay FILE [--of MODULE] | normal MODULE NAME [--turns N] | prompt MODULE [--turns N] | make N\n"
+
+-- its status
+abbrev pub status_of : Outcome → Status
+status_of (outcome.Judged (Yes rows roots)) = status.Yes
+status_of (outcome.Judged (No row)) = status.No
+status_of (outcome.RootDiffers root) = status.No
+status_of (outcome.Refused refusal) = status.No
+status_of (outcome.MissingFile path) = status.No
+status_of outcome.ReadFault = status.Fault
+status_of (outcome.Checked count) = status.Yes
+status_of outcome.WriteFault = status.Fault
+status_of outcome.Usage = status.Usage
+
+-- A file was missing, could not be read, or not be stored, only where the count of that rose.
+abbrev pub IsCounted : SeenFiles → SeenFiles → Outcome → Type 0
+IsCounted old new (outcome.MissingFile path) = Rose old.counts.misses new.counts.misses
+IsCounted old new outcome.ReadFault = Rose old.counts.fetch_faults new.counts.fetch_faults
+IsCounted old new outcome.WriteFault = Rose old.counts.store_faults new.counts.store_faults
+IsCounted old new result = Unit {0}
+
+-- each path holds what it did, and no store was tried that failed
+abbrev pub StoresNothing : SeenFiles → SeenFiles → Type 0
+StoresNothing old new =
+    (new.held ≡ old.held) × (new.counts.store_faults ≡ old.counts.store_faults)

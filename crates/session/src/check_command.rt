@@ -1,0 +1,131 @@
+//! The command `check`: it checks a module as it stands, and stores its derivation.
+
+ghost use Rattle.std.specs.Prelude.{◌≡◌, ◌<◌, IfOk, Some, length, slice_get};
+ghost use Rattle.layout_lexer.specs.declared.token.Span.{Span};
+ghost use Rattle.resolver.specs.Resolved.{defs_in};
+ghost use Rattle.edge.specs.Seen.{seen_files};
+ghost use Rattle.linking.specs.Linked.{IsLinked};
+ghost use Rattle.session.specs.Checks.{IsChecked, IsRefusedAt, MayCheck, MayLeave, Place, Stores};
+ghost use Rattle.session.specs.Checks.{nodes_of, places};
+ghost use Rattle.session.specs.Outcomes.{IsCounted};
+
+use crate::outcome::Outcome;
+use crate::program::{Program, read_program};
+use crate::refusal::{Cause, refused};
+use bidirect::{Checked, Root, check_definitions};
+use book::{Book, NodeId};
+use book_writer::write;
+use edge::{Files, Stored};
+use module_texts::{ModuleText, path_of};
+use resolver::CodeDef;
+use std::alloc::{AllocError, Global};
+
+/// What is found of the definitions of a module.
+#[derive(Drop)]
+enum Found {
+    /// All are direct, and these are the bytes of their derivation.
+    Derived(Vec<u8>),
+    /// The place of the first that is not direct.
+    NotDirect(usize),
+}
+
+/// The nodes of what definitions state, in order.
+fn nodes_of(alloc: Global, roots: &[Root]) -> Result<Vec<NodeId>, AllocError>
+    ensures { IfOk result (λ nodes. nodes.items ≡ nodes_of roots.now) }
+{
+    let mut nodes = Vec::new(alloc);
+    for root in roots {
+        nodes.push(root.ty)?;
+        nodes.push(root.body)?;
+    }
+    Ok(nodes)
+}
+
+/// Checks definitions in order, and writes the derivation of what they state.
+fn derive(alloc: Global, defs: &[CodeDef]) -> Result<Found, AllocError>
+    ensures { IfOk result (IsChecked defs.now) }
+{
+    let mut book = Book::new(alloc)?;
+    match check_definitions(alloc, &mut book, defs)? {
+        Checked::NotDirect(place) => Ok(Found::NotDirect(place)),
+        Checked::Direct(roots) => {
+            let nodes = nodes_of(alloc, &roots)?;
+            let mut bytes = Vec::new(alloc);
+            let _rows = write(&book, alloc, &nodes, &mut bytes)?;
+            Ok(Found::Derived(bytes))
+        }
+    }
+}
+
+/// The module that holds the definition at this place among those of all modules.
+fn holder(texts: &[ModuleText], place: usize) -> &ModuleText
+    requires { place < length (places texts.now) }
+    ensures { (at : Place) × (slice_get (places texts.now) place ≡ Some at)
+        × (at.holder ≡ result.now) }
+{
+    let mut number = 0;
+    let mut left = place;
+    loop {
+        let count = texts[number].module.defs.as_slice().len();
+        if left < count {
+            return &texts[number];
+        }
+        left -= count;
+        number += 1;
+    }
+}
+
+/// Refuses the definition at this place among those of all modules, at its name.
+fn not_direct(alloc: Global, program: &Program, place: usize) -> Result<Outcome, AllocError>
+    requires linked { IsLinked program.now.texts.items program.now.codes }
+    requires within { place < length (defs_in program.now.codes) }
+    ensures { IfOk result (IsRefusedAt program.now.texts.items place) }
+{
+    let name = program.codes.as_slice()[place].name;
+    let path = path_of(alloc, holder(&program.texts, place).name.as_str())?;
+    Ok(refused(Cause::RefusedForm, Some(name.start), path))
+}
+
+/// Stores the derivation of a module of so many definitions. The only error is out of memory.
+fn store<F: Files>(
+    alloc: Global,
+    name: &str,
+    count: usize,
+    bytes: &[u8],
+    files: &mut F,
+) -> Result<Outcome, AllocError>
+    ensures { let see = seen_files F.held F.counts in
+        Stores name.now bytes.now count (see files.old) (see files.new) result }
+{
+    let mut path = String::from_str(alloc, name)?;
+    path.push_str(".drv")?;
+    match files.store(path.as_str(), bytes) {
+        Stored::Done => Ok(Outcome::Checked(count as u64)),
+        Stored::Failed => Ok(Outcome::WriteFault),
+        Stored::Memory => Err(AllocError),
+    }
+}
+
+/// Checks the module of this name and those that its imports reach, and stores the derivation of
+/// all that they state at its path. The only error is out of memory.
+pub(crate) fn check<F: Files>(
+    alloc: Global,
+    name: &str,
+    files: &mut F,
+) -> Result<Outcome, AllocError>
+    ensures answer { let see = seen_files F.held F.counts in
+        IfOk result (λ told. MayCheck name.now (see files.old) (see files.new) told
+        × IsCounted (see files.old) (see files.new) told) }
+    ensures left { let see = seen_files F.held F.counts in
+        MayLeave name.now (see files.old) (see files.new) }
+{
+    let program = match read_program(alloc, name, files)? {
+        Ok(program) => program,
+        Err(outcome) => return Ok(outcome),
+    };
+    let defs = program.codes.as_slice();
+    match derive(alloc, defs)? {
+        Found::Derived(bytes) => store(alloc, name, defs.len(), &bytes, files),
+        Found::NotDirect(place) => not_direct(alloc, &program, place),
+    }
+}
