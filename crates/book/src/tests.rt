@@ -10,7 +10,7 @@ ghost use Rattle.book.specs.Shown.{book_concludes, Extends};
 ghost use Rattle.book.specs.Tests.{Follows};
 
 use crate::{Book, Few, NodeId, RuleUse};
-use rows::{Maker, Row, SubId, SubRow, TermId};
+use rows::{Maker, Row, SubRow, TermId};
 use std::alloc::AllocError;
 use std::process::Abort;
 use std::test::Fail;
@@ -139,7 +139,7 @@ fn a_row_of_any_kind_is_read_as_it_was_made(rt: HostRuntime) -> Result<(), Fail>
     let mut book = Book::new(rt.alloc())?;
     let shift = book.shift(2)?;
     let then = book.then(shift, shift)?;
-    assert!(rt; matches!(book.row(then), Row::Subst(SubRow::Then(SubId(0), SubId(0)))));
+    assert!(rt; matches!(book.row(then), Row::Subst(SubRow::Shift(4))));
     Ok(())
 }
 

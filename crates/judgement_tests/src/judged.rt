@@ -152,11 +152,11 @@ const ROWS: [Row; 20] = [
     // glueing
     (
         "f (A T w : U) : PathP (<i> U) A A = <i> Glue A [ (i=0) -> (T, w), (i=1) -> (A, w) ]",
-        "[] >> (pi U (pi U[1] (pi U[2] (pathp U #2 #2))))\n\
-         [] >> (lam U (lam U[1] (lam U[2] (plam (Glue #3 (join (eq0 #0) (join (eq1 #0) f0)) \
+        "[] >> (pi U (pi U[1] (pi U[1][1] (pathp U #2 #2))))\n\
+         [] >> (lam U (lam U[1] (lam U[1][1] (plam (Glue #3 (join (eq0 #0) (join (eq1 #0) f0)) \
          (sys (eq0 #0) (join (eq1 #0) f0) #2 (sys (eq1 #0) f0 #3 empty)) \
          (sys (eq0 #0) (join (eq1 #0) f0) #1 (sys (eq1 #0) f0 #1 empty))))))) : \
-         (pi U (pi U[1] (pi U[2] (pathp U #2 #2))))\n",
+         (pi U (pi U[1] (pi U[1][1] (pathp U #2 #2))))\n",
     ),
 ];
 
