@@ -24,7 +24,9 @@ pub(crate) const MODULES: [(&str, Is); 73] = [
         Is::Direct(2, 4),
     ),
     (
-        "id (A : U) (x : A) : A = x\nf : nat -> nat = id (nat -> nat) (\\(x : nat) -> x)\ng : nat = id (nat -> nat) f zero",
+        "id (A : U) (x : A) : A = x\n\
+         f : nat -> nat = id (nat -> nat) (\\(x : nat) -> x)\n\
+         g : nat = id (nat -> nat) f zero",
         Is::Direct(3, 6),
     ),
     ("k (A B : U) (x : A) (y : B) : A = x", Is::Direct(1, 2)),
@@ -45,7 +47,8 @@ pub(crate) const MODULES: [(&str, Is); 73] = [
         Is::Refused(58),
     ),
     (
-        "pr (A : U) (B : A -> U) (t : (x : A) * B x) : A = t.1\nse (A : U) (B : A -> U) (t : (x : A) * B x) : B t.1 = t.2",
+        "pr (A : U) (B : A -> U) (t : (x : A) * B x) : A = t.1\n\
+         se (A : U) (B : A -> U) (t : (x : A) * B x) : B t.1 = t.2",
         Is::Direct(2, 4),
     ),
     (
@@ -65,7 +68,8 @@ pub(crate) const MODULES: [(&str, Is); 73] = [
         Is::Direct(1, 2),
     ),
     (
-        "sym (A : U) (a b : A) (p : PathP (<i> A) a b) : PathP (<i> A) (p @ 1) (p @ 0) = <i> p @ -i",
+        "sym (A : U) (a b : A) (p : PathP (<i> A) a b) : PathP (<i> A) (p @ 1) (p @ 0) \
+         = <i> p @ -i",
         Is::Refused(15),
     ),
     (
@@ -93,7 +97,8 @@ pub(crate) const MODULES: [(&str, Is); 73] = [
         Is::Direct(1, 2),
     ),
     (
-        "ind (P : nat -> U) (a : P zero) (b : (x : nat) -> P x -> P (suc x)) (n : nat) : P n = natrec P a b n",
+        "ind (P : nat -> U) (a : P zero) (b : (x : nat) -> P x -> P (suc x)) (n : nat) : P n \
+         = natrec P a b n",
         Is::Direct(1, 2),
     ),
     ("l : nat = let a : nat = zero in suc a", Is::Direct(1, 4)),
@@ -134,7 +139,8 @@ pub(crate) const MODULES: [(&str, Is); 73] = [
         Is::Direct(1, 4),
     ),
     (
-        "z (A B C : U) (f : A -> B) (g : B -> C) (x : A) : C = g (f x)\nw : nat = z nat nat nat suc suc zero",
+        "z (A B C : U) (f : A -> B) (g : B -> C) (x : A) : C = g (f x)\n\
+         w : nat = z nat nat nat suc suc zero",
         Is::Direct(2, 4),
     ),
     ("f (x : nat) : nat = suc nat", Is::Refused(15)),
