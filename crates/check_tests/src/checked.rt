@@ -108,7 +108,7 @@ fn nested(alloc: Global, count: u32) -> Result<String, AllocError> {
     Ok(text)
 }
 
-// Each would take hours if a definition was opened wherever it is used.
+// The towers would take hours if a definition was opened wherever it is used.
 #[test]
 fn towers_and_deep_modules_are_answered(rt: HostRuntime) -> Result<(), Fail> {
     let cases = [
