@@ -45,35 +45,35 @@ pair_sides_row n (more_of-PairSide es s T w rest) = ap (λ xs. side_of es.items 
 
 -- forms
 
-abbrev row_of-CodeDef : Code → (n : Count) × Row_of-CodeDef n
+abbrev pub row_of-CodeDef : Code → (n : Count) × Row_of-CodeDef n
 row_of-CodeDef (Let' s _ row p c) = (_, row)
 row_of-CodeDef _ = (_, end_of-CodeDef)
 
-abbrev row_of-Binder : Code → (n : Count) × Row_of-Binder n
+abbrev pub row_of-Binder : Code → (n : Count) × Row_of-Binder n
 row_of-Binder (Pi' s _ row p c) = (_, row)
 row_of-Binder (Sigma' s _ row p c) = (_, row)
 row_of-Binder (Lambda' s _ row p c) = (_, row)
 row_of-Binder _ = (_, end_of-Binder)
 
-abbrev row_of-Element : Code → (n : Count) × Row_of-Element n
+abbrev pub row_of-Element : Code → (n : Count) × Row_of-Element n
 row_of-Element (Apply' s p c _ row) = (_, row)
 row_of-Element _ = (_, end_of-Element)
 
-abbrev row_of-Code : Code → (n : Count) × Row_of-Code n
+abbrev pub row_of-Code : Code → (n : Count) × Row_of-Code n
 row_of-Code (Tuple' s _ row) = (_, row)
 row_of-Code _ = (_, end_of-Code)
 
-abbrev row_of-LineSide : Code → (n : Count) × Row_of-LineSide n
+abbrev pub row_of-LineSide : Code → (n : Count) × Row_of-LineSide n
 row_of-LineSide (Comp' s p l q a _ row) = (_, row)
 row_of-LineSide (Fill' s p l q a _ row) = (_, row)
 row_of-LineSide _ = (_, end_of-LineSide)
 
-abbrev row_of-PairSide : Code → (n : Count) × Row_of-PairSide n
+abbrev pub row_of-PairSide : Code → (n : Count) × Row_of-PairSide n
 row_of-PairSide (GlueType' s p a _ row) = (_, row)
 row_of-PairSide (Unglue' s p a _ row) = (_, row)
 row_of-PairSide _ = (_, end_of-PairSide)
 
-abbrev row_of-Side : Code → (n : Count) × Row_of-Side n
+abbrev pub row_of-Side : Code → (n : Count) × Row_of-Side n
 row_of-Side (GlueTerm' s p a _ row) = (_, row)
 row_of-Side _ = (_, end_of-Side)
 
@@ -132,7 +132,7 @@ meaning_of-Unglue s c ds =
     let row = row_of-PairSide (Unglue_ s c ds) in
     ap (λ xs. unglued (meaning c.value) xs) (pair_sides_row row.0 row.1 ∙ ap (λ ys. map pair_side ys) (items_hidden-the_row-PairSide-5 ds))
 
-abbrev row_under : CodeDef → (n : Count) × Row_of-Binder n
+abbrev pub row_under : CodeDef → (n : Count) × Row_of-Binder n
 row_under (CodeDef' x k _ row t c) = (_, row)
 
 pub definition_of : (x : Span) (n : ℕ) (bs : Vec BinderOf Global) (t c : Code) → definition (roll-CodeDef (record { name = x; number = n; binders = bs; ty = t; body = c })) ≡ define n (defined (map binder bs.items) (meaning t) (λ G. done G) (meaning c))

@@ -36,6 +36,36 @@ ghost use Rattle.codes.specs.Codes.{
   recursion,
   term_side,
 };
+ghost use Rattle.codes.specs.Shapes.{
+  apply as an_application,
+  def_shape,
+  element_shape,
+  lambda as a_lambda,
+  listed,
+  of_binder,
+  of_line_side,
+  of_pair_side,
+  of_side,
+  opened_shape,
+  path_lambda as a_path_lambda,
+  shape,
+  successor as a_successor,
+  Comp as a_comp,
+  Def as a_def,
+  Fill as a_fill,
+  GlueTerm as a_glue_term,
+  GlueType as a_glue_type,
+  Let as a_let,
+  NatRec as a_natrec,
+  PathP as a_path_type,
+  Pi as a_pi,
+  Project as a_projection,
+  Sigma as a_sigma,
+  Suc as a_suc,
+  Transport as a_transport,
+  Tuple as a_tuple,
+  Unglue as an_unglue,
+};
 
 use crate::code::{Binder, Code, CodeDef, Element, LineSide, Opened, PairSide, Side};
 use layout_lexer::Span;
@@ -50,7 +80,10 @@ impl Code {
         locals: Vec<CodeDef>,
         body: Code,
     ) -> Result<Code, AllocError>
-        ensures { IfOk result (λ c. meaning c ≡ after (definitions locals.items) (meaning body)) }
+        ensures means { IfOk result (λ c.
+            meaning c ≡ after (definitions locals.items) (meaning body)) }
+        ensures shaped { IfOk result (λ c.
+            shape c ≡ a_let span (listed def_shape locals.items) (shape body)) }
     {
         let body = Box::new(alloc, body)?;
         Ok(Code::Let { span, locals, body })
@@ -58,7 +91,8 @@ impl Code {
 
     /// `suc argument`
     pub fn suc(alloc: Global, span: Span, argument: Code) -> Result<Code, AllocError>
-        ensures { IfOk result (λ c. meaning c ≡ one suc (meaning argument)) }
+        ensures means { IfOk result (λ c. meaning c ≡ one suc (meaning argument)) }
+        ensures shaped { IfOk result (λ c. shape c ≡ a_suc span (shape argument)) }
     {
         let argument = Box::new(alloc, argument)?;
         Ok(Code::Suc { span, argument })
@@ -73,9 +107,12 @@ impl Code {
         step: Code,
         argument: Code,
     ) -> Result<Code, AllocError>
-        ensures { IfOk result (λ c.
+        ensures means { IfOk result (λ c.
             meaning c ≡ recursion (at_variable motive) (meaning base) (meaning step)
             (meaning argument)) }
+        ensures shaped { IfOk result (λ c.
+            shape c ≡ a_natrec span (opened_shape motive) (shape base) (shape step)
+            (shape argument)) }
     {
         let motive = Box::new(alloc, motive)?;
         let base = Box::new(alloc, base)?;
@@ -97,8 +134,10 @@ impl Code {
         binders: Vec<Binder>,
         body: Code,
     ) -> Result<Code, AllocError>
-        ensures { IfOk result (λ c.
+        ensures means { IfOk result (λ c.
             meaning c ≡ under pi (map binder binders.items) (meaning body)) }
+        ensures shaped { IfOk result (λ c.
+            shape c ≡ a_pi span (listed of_binder binders.items) (shape body)) }
     {
         let body = Box::new(alloc, body)?;
         Ok(Code::Pi {
@@ -115,8 +154,10 @@ impl Code {
         binders: Vec<Binder>,
         body: Code,
     ) -> Result<Code, AllocError>
-        ensures { IfOk result (λ c.
+        ensures means { IfOk result (λ c.
             meaning c ≡ under sig (map binder binders.items) (meaning body)) }
+        ensures shaped { IfOk result (λ c.
+            shape c ≡ a_sigma span (listed of_binder binders.items) (shape body)) }
     {
         let body = Box::new(alloc, body)?;
         Ok(Code::Sigma {
@@ -133,8 +174,10 @@ impl Code {
         binders: Vec<Binder>,
         body: Code,
     ) -> Result<Code, AllocError>
-        ensures { IfOk result (λ c.
+        ensures means { IfOk result (λ c.
             meaning c ≡ under lam (map binder binders.items) (meaning body)) }
+        ensures shaped { IfOk result (λ c.
+            shape c ≡ a_lambda span (listed of_binder binders.items) (shape body)) }
     {
         if binders.is_empty() {
             return Ok(body);
@@ -154,7 +197,9 @@ impl Code {
         names: usize,
         body: Code,
     ) -> Result<Code, AllocError>
-        ensures { IfOk result (λ c. meaning c ≡ under_names (replicate names 0) (meaning body)) }
+        ensures means { IfOk result (λ c.
+            meaning c ≡ under_names (replicate names 0) (meaning body)) }
+        ensures shaped { IfOk result (λ c. shape c ≡ a_path_lambda span names (shape body)) }
     {
         if names == 0 {
             return Ok(body);
@@ -170,8 +215,10 @@ impl Code {
         head: Code,
         elements: Vec<Element>,
     ) -> Result<Code, AllocError>
-        ensures { IfOk result (λ c.
+        ensures means { IfOk result (λ c.
             meaning c ≡ application (meaning head) (map element elements.items)) }
+        ensures shaped { IfOk result (λ c.
+            shape c ≡ an_application span (shape head) (listed element_shape elements.items)) }
     {
         if elements.is_empty() {
             return Ok(head);
@@ -191,7 +238,9 @@ impl Code {
         pair: Code,
         projections: Projections,
     ) -> Result<Code, AllocError>
-        ensures { IfOk result (λ c. meaning c ≡ one (λ t. project t projections) (meaning pair)) }
+        ensures means { IfOk result (λ c.
+            meaning c ≡ one (λ t. project t projections) (meaning pair)) }
+        ensures shaped { IfOk result (λ c. shape c ≡ a_projection span (shape pair) projections) }
     {
         let pair = Box::new(alloc, pair)?;
         Ok(Code::Project {
@@ -203,7 +252,8 @@ impl Code {
 
     /// `( components )`, which nest to the right
     pub fn tuple(span: Span, components: Vec<Code>) -> Code
-        ensures { meaning result ≡ tupled (map meaning components.items) }
+        ensures means { meaning result ≡ tupled (map meaning components.items) }
+        ensures shaped { shape result ≡ a_tuple span (listed shape components.items) }
     {
         Code::Tuple { span, components }
     }
@@ -216,8 +266,10 @@ impl Code {
         left: Code,
         right: Code,
     ) -> Result<Code, AllocError>
-        ensures { IfOk result (λ c.
+        ensures means { IfOk result (λ c.
             meaning c ≡ path_type (at_name line) (meaning left) (meaning right)) }
+        ensures shaped { IfOk result (λ c.
+            shape c ≡ a_path_type span (opened_shape line) (shape left) (shape right)) }
     {
         let line = Box::new(alloc, line)?;
         let left = Box::new(alloc, left)?;
@@ -238,8 +290,11 @@ impl Code {
         base: Code,
         sides: Vec<LineSide>,
     ) -> Result<Code, AllocError>
-        ensures { IfOk result (λ c.
+        ensures means { IfOk result (λ c.
             meaning c ≡ composition (at_name line) (meaning base) (map line_side sides.items)) }
+        ensures shaped { IfOk result (λ c.
+            shape c ≡ a_comp span (opened_shape line) (shape base)
+            (listed of_line_side sides.items)) }
     {
         let line = Box::new(alloc, line)?;
         let base = Box::new(alloc, base)?;
@@ -259,8 +314,11 @@ impl Code {
         base: Code,
         sides: Vec<LineSide>,
     ) -> Result<Code, AllocError>
-        ensures { IfOk result (λ c.
+        ensures means { IfOk result (λ c.
             meaning c ≡ filling (at_name line) (meaning base) (map line_side sides.items)) }
+        ensures shaped { IfOk result (λ c.
+            shape c ≡ a_fill span (opened_shape line) (shape base)
+            (listed of_line_side sides.items)) }
     {
         let line = Box::new(alloc, line)?;
         let base = Box::new(alloc, base)?;
@@ -279,7 +337,9 @@ impl Code {
         line: Opened,
         base: Code,
     ) -> Result<Code, AllocError>
-        ensures { IfOk result (λ c. meaning c ≡ transported (at_name line) (meaning base)) }
+        ensures means { IfOk result (λ c. meaning c ≡ transported (at_name line) (meaning base)) }
+        ensures shaped { IfOk result (λ c.
+            shape c ≡ a_transport span (opened_shape line) (shape base)) }
     {
         let line = Box::new(alloc, line)?;
         let base = Box::new(alloc, base)?;
@@ -293,8 +353,10 @@ impl Code {
         base: Code,
         sides: Vec<PairSide>,
     ) -> Result<Code, AllocError>
-        ensures { IfOk result (λ c.
+        ensures means { IfOk result (λ c.
             meaning c ≡ glue_of_types (meaning base) (map pair_side sides.items)) }
+        ensures shaped { IfOk result (λ c.
+            shape c ≡ a_glue_type span (shape base) (listed of_pair_side sides.items)) }
     {
         let base = Box::new(alloc, base)?;
         Ok(Code::GlueType { span, base, sides })
@@ -307,8 +369,10 @@ impl Code {
         base: Code,
         sides: Vec<Side>,
     ) -> Result<Code, AllocError>
-        ensures { IfOk result (λ c.
+        ensures means { IfOk result (λ c.
             meaning c ≡ glue_of_terms (meaning base) (map term_side sides.items)) }
+        ensures shaped { IfOk result (λ c.
+            shape c ≡ a_glue_term span (shape base) (listed of_side sides.items)) }
     {
         let base = Box::new(alloc, base)?;
         Ok(Code::GlueTerm { span, base, sides })
@@ -321,8 +385,10 @@ impl Code {
         base: Code,
         sides: Vec<PairSide>,
     ) -> Result<Code, AllocError>
-        ensures { IfOk result (λ c.
+        ensures means { IfOk result (λ c.
             meaning c ≡ unglued (meaning base) (map pair_side sides.items)) }
+        ensures shaped { IfOk result (λ c.
+            shape c ≡ an_unglue span (shape base) (listed of_pair_side sides.items)) }
     {
         let base = Box::new(alloc, base)?;
         Ok(Code::Unglue { span, base, sides })
@@ -330,8 +396,9 @@ impl Code {
 
     /// `suc` without an argument: `\(x : nat) -> suc x`
     pub fn successor(alloc: Global, span: Span) -> Result<Code, AllocError>
-        ensures { IfOk result (λ c. meaning c ≡ under lam
+        ensures means { IfOk result (λ c. meaning c ≡ under lam
             (binder_of 1 (λ G. done nat) ∷ []) (one suc (λ G. done innermost))) }
+        ensures shaped { IfOk result (λ c. shape c ≡ a_successor span) }
     {
         let mut binders = Vec::new(alloc);
         binders.push(Binder {
@@ -348,6 +415,8 @@ impl CodeDef {
     pub fn new(name: Span, number: u32, binders: Vec<Binder>, ty: Code, body: Code) -> CodeDef
         ensures means { definition result ≡ define number
             (defined (map binder binders.items) (meaning ty) (λ G. done G) (meaning body)) }
+        ensures shaped { def_shape result
+            ≡ a_def name (listed of_binder binders.items) (shape ty) (shape body) }
         ensures named { (out-CodeDef result).name ≡ name }
         ensures numbered { (out-CodeDef result).number ≡ number }
     {

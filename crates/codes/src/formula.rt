@@ -4,6 +4,8 @@ ghost use Rattle.std.specs.Prelude.{◌≡◌, IfOk};
 ghost use Rattle.translation.specs.Forms.{one, two};
 ghost use Rattle.translation.specs.Terms.{neg, min, max};
 ghost use Rattle.codes.specs.Codes.{formula as meaning};
+ghost use Rattle.syntax.specs.Tree.{Join as a_join, Meet as a_meet, Negate as a_negation};
+ghost use Rattle.codes.specs.Shapes.{formula_shape};
 
 use layout_lexer::Span;
 use std::alloc::{AllocError, Global};
@@ -24,7 +26,9 @@ pub enum Formula {
 impl Formula {
     /// `- formula`
     pub fn negate(alloc: Global, span: Span, formula: Formula) -> Result<Formula, AllocError>
-        ensures { IfOk result (λ f. meaning f ≡ one neg (meaning formula)) }
+        ensures means { IfOk result (λ f. meaning f ≡ one neg (meaning formula)) }
+        ensures shaped { IfOk result (λ f.
+            formula_shape f ≡ a_negation span (formula_shape formula)) }
     {
         Ok(Formula::Negate(span, Box::new(alloc, formula)?))
     }
@@ -36,7 +40,9 @@ impl Formula {
         left: Formula,
         right: Formula,
     ) -> Result<Formula, AllocError>
-        ensures { IfOk result (λ f. meaning f ≡ two min (meaning left) (meaning right)) }
+        ensures means { IfOk result (λ f. meaning f ≡ two min (meaning left) (meaning right)) }
+        ensures shaped { IfOk result (λ f.
+            formula_shape f ≡ a_meet span (formula_shape left) (formula_shape right)) }
     {
         let left = Box::new(alloc, left)?;
         Ok(Formula::Meet(span, left, Box::new(alloc, right)?))
@@ -49,7 +55,9 @@ impl Formula {
         left: Formula,
         right: Formula,
     ) -> Result<Formula, AllocError>
-        ensures { IfOk result (λ f. meaning f ≡ two max (meaning left) (meaning right)) }
+        ensures means { IfOk result (λ f. meaning f ≡ two max (meaning left) (meaning right)) }
+        ensures shaped { IfOk result (λ f.
+            formula_shape f ≡ a_join span (formula_shape left) (formula_shape right)) }
     {
         let left = Box::new(alloc, left)?;
         Ok(Formula::Join(span, left, Box::new(alloc, right)?))

@@ -4,6 +4,18 @@ ghost use Rattle.std.specs.Prelude.{◌≡◌, [], ◌∷◌, IfOk, map, replica
 ghost use Rattle.translation.specs.Forms.{after, one, over, project, tuple as tupled, under};
 ghost use Rattle.translation.specs.Terms.{lam, nat as nat_tree, pi};
 ghost use Rattle.codes.specs.Codes.{binder_of, definitions, meaning};
+ghost use Rattle.codes.specs.Shapes.{
+  def_shape,
+  lambda as a_lambda,
+  listed,
+  more,
+  none,
+  shape,
+  Binder as a_binder,
+  Pi as a_pi,
+  Project as a_projection,
+};
+ghost use Rattle.readings.specs.Shaped.{after as with_block, numbers, tuple as a_tuple};
 
 use codes::{Binder, Code, CodeDef};
 use layout_lexer::Span;
@@ -12,8 +24,10 @@ use syntax::{Projection, Projections};
 
 /// `ty -> body`: a Pi type over a variable that has no name.
 pub fn arrow(alloc: Global, span: Span, ty: Code, body: Code) -> Result<Code, AllocError>
-    ensures { IfOk result (λ c.
+    ensures means { IfOk result (λ c.
         meaning c ≡ under pi (binder_of 1 (meaning ty) ∷ []) (meaning body)) }
+    ensures shaped { IfOk result (λ c.
+        shape c ≡ a_pi span (more (a_binder 1 (shape ty)) none) (shape body)) }
 {
     let mut binders = Vec::new(alloc);
     binders.push(Binder { names: 1, ty })?;
@@ -29,8 +43,10 @@ pub fn over_numbers(
     nat: Span,
     body: Code,
 ) -> Result<Code, AllocError>
-    ensures { IfOk result (λ c.
+    ensures means { IfOk result (λ c.
         meaning c ≡ over lam (replicate names 0) nat_tree (meaning body)) }
+    ensures shaped { IfOk result (λ c.
+        shape c ≡ a_lambda span (numbers names nat) (shape body)) }
 {
     if names == 0 {
         return Ok(body);
@@ -50,8 +66,10 @@ pub fn projected(
     pair: Code,
     projections: &[Projection],
 ) -> Result<Code, AllocError>
-    ensures { IfOk result (λ c.
+    ensures means { IfOk result (λ c.
         meaning c ≡ one (λ t. project t projections.now) (meaning pair)) }
+    ensures shaped { IfOk result (λ c.
+        shape c ≡ a_projection span (shape pair) projections.now) }
 {
     let projections = copied(alloc, projections)?;
     Code::project(alloc, span, pair, projections)
@@ -69,14 +87,16 @@ fn copied(alloc: Global, projections: &[Projection]) -> Result<Projections, Allo
 
 /// `( components )`: one is itself, several nest to the right.
 pub fn tuple(span: Span, mut components: Vec<Code>) -> Code
-    ensures { meaning result ≡ tupled (map meaning components.items) }
+    ensures means { meaning result ≡ tupled (map meaning components.items) }
+    ensures shaped { shape result ≡ a_tuple span (listed shape components.items) }
 {
-    if components.len() == 1
-        && let Some(only) = components.pop()
-    {
-        return only;
+    if components.len() != 1 {
+        return Code::tuple(span, components);
     }
-    Code::tuple(span, components)
+    match components.pop() {
+        Some(only) => only,
+        None => Code::tuple(span, components),
+    }
 }
 
 /// The body after its `where` block; without one, the body.
@@ -86,7 +106,9 @@ pub fn with_locals(
     locals: Vec<CodeDef>,
     body: Code,
 ) -> Result<Code, AllocError>
-    ensures { IfOk result (λ c. meaning c ≡ after (definitions locals.items) (meaning body)) }
+    ensures means { IfOk result (λ c. meaning c ≡ after (definitions locals.items) (meaning body)) }
+    ensures shaped { IfOk result (λ c.
+        shape c ≡ with_block span (listed def_shape locals.items) (shape body)) }
 {
     if locals.is_empty() {
         return Ok(body);

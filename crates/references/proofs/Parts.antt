@@ -1,5 +1,6 @@
 -- Formulas and equations, from their parts.
-use Rattle.std.proofs.Common.{◌≡◌, ◌+◌, ◌<◌, ℕ, Result, Ok, Err, IfOk, List, [], ◌∷◌, ◌++◌, map, length, take, drop, sym, subst, refl}
+use Rattle.std.proofs.Common.{◌≡◌, ◌+◌, ◌<◌, ℕ, Result, Ok, Err, IfOk, List, [], ◌∷◌, ◌++◌, map, length, take, drop, sym, subst, refl, ◌∙◌}
+use Rattle.syntax.specs.Tree as text
 use Rattle.syntax.specs.declared.formula.End.{End}
 use Rattle.syntax.specs.declared.formula.End.TheVariants as end
 use Rattle.syntax.specs.declared.formula.Equation.{Equation as EquationOf}
@@ -12,6 +13,7 @@ use Rattle.translation.specs.Texts.{equations as spelt_equations, name_at}
 use Rattle.codes.specs.declared.formula.Formula.{Formula}
 use Rattle.codes.specs.declared.formula.Equation.{Equation}
 use Rattle.codes.specs.Codes.{formula as meaning, equations as meant}
+use Rattle.codes.specs.Shapes.{formula_shape}
 use Rattle.scopes.specs.Steps.{State, Resolves}
 use Rattle.scopes.proofs.Moving.{resolves_one}
 use Rattle.scopes.proofs.Lists.{resolves_map_more}
@@ -38,3 +40,7 @@ equations_step bytes s t u before after ys zs x k first name e d =
     (subst (λ es. Resolves s u (all (spelt_equations bytes (before ++ x ∷ []))) (all (meant es))) (sym d)
     (resolves_map_more (λ (a : EquationOf). equation a.end (name_at bytes a.name)) (λ (b : Equation). equation b.end (λ G. done (Var b.index))) s t u before ys x y first
     (equation_resolves x.end t u (name_at bytes x.name) (index_of k) name)))
+
+pub shaped_as : {E : Type 0} {k h : text.Formula} (r : Result Formula E) → IfOk r (λ f. formula_shape f ≡ k) → k ≡ h → IfOk r (λ f. formula_shape f ≡ h)
+shaped_as (Ok f) e i = e ∙ i
+shaped_as (Err x) e i = tt

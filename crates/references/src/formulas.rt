@@ -6,6 +6,7 @@ ghost use Rattle.translation.specs.Forms.{all};
 ghost use Rattle.translation.specs.Texts.{equations as the_equations, formula as the_formula};
 ghost use Rattle.translation.specs.Texts.{name_at};
 ghost use Rattle.codes.specs.Codes.{equations as meant, formula as meaning};
+ghost use Rattle.codes.specs.Shapes.{formula_shape};
 ghost use Rattle.references.specs.Spelt.{index_of};
 ghost use Rattle.scopes.specs.Steps.{Resolves};
 
@@ -48,8 +49,9 @@ impl<'a> References<'a> {
         place: &mut Place<'a>,
         formula: &syntax::Formula,
     ) -> Result<Formula, AllocError>
-        ensures { IfOk result (λ f. Resolves place.old place.new
+        ensures resolves { IfOk result (λ f. Resolves place.old place.new
             (the_formula self.now.bytes.now (formula_of formula.now)) (meaning f)) }
+        ensures shaped { IfOk result (λ f. formula_shape f ≡ formula_of formula.now) }
     {
         match formula {
             syntax::Formula::Zero(span) => Ok(Formula::Zero(*span)),

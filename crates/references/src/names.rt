@@ -1,8 +1,9 @@
 //! Names where terms are wanted.
 
-ghost use Rattle.std.specs.Prelude.{◌≡◌, IfOk};
+ghost use Rattle.std.specs.Prelude.{◌≡◌, ◌⊎◌, IfOk};
 ghost use Rattle.translation.specs.Texts.{term_at, word};
 ghost use Rattle.codes.specs.Codes.{meaning};
+ghost use Rattle.codes.specs.Shapes.{shape, successor as a_successor, Leaf as a_leaf};
 ghost use Rattle.scopes.specs.Steps.{Resolves};
 
 use codes::Code;
@@ -33,8 +34,9 @@ impl<'a> References<'a> {
 
     /// A name where a term is wanted.
     pub fn name(&self, place: &mut Place<'a>, span: Span) -> Result<Code, AllocError>
-        ensures { IfOk result (λ c.
+        ensures resolves { IfOk result (λ c.
             Resolves place.old place.new (term_at self.now.bytes.now span) (meaning c)) }
+        ensures shaped { IfOk result (λ c. (shape c ≡ a_leaf span) ⊎ (shape c ≡ a_successor span)) }
     {
         match place.find(self.spelling(span)) {
             Found::Variable(index) => Ok(Code::Bound { span, index }),

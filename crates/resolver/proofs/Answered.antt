@@ -1,8 +1,9 @@
 -- What is answered of a text, from what was answered of its parts.
-use Rattle.std.proofs.Common.{◌≡◌, ◌<◌, ◌≤◌, ℕ, List, [], ◌∷◌, length, get_or, Result, Ok, Err, IfOk, refl, ap, ◌∙◌, subst, arith}
+use Rattle.std.proofs.Common.{◌≡◌, ◌<◌, ◌≤◌, ℕ, List, [], ◌∷◌, length, get_or, Result, Ok, Err, IfOk, refl, sym, ap, ◌∙◌, subst, arith}
 use Rattle.layout_lexer.specs.declared.token.Span.{Span}
 use Rattle.syntax.specs.declared.exp.Exp.{Exp}
 use Rattle.syntax.specs.declared.exp.Element.{Element, Argument as Argument'}
+use Rattle.syntax.specs.View.{tree_of}
 use Rattle.trees.specs.Trees.{Tree}
 use Rattle.translation.specs.declared.built_in.BuiltIn.TheVariants as built_in
 use Rattle.translation.specs.Names.{Word}
@@ -10,6 +11,7 @@ use Rattle.translation.specs.Texts.{word}
 use Rattle.translation.specs.Forms.{Means}
 use Rattle.codes.specs.declared.code.Code.{Code}
 use Rattle.codes.specs.Codes.{meaning}
+use Rattle.codes.specs.Shapes.{shape, Leaf, PairSide}
 use Rattle.scopes.specs.declared.names.Found.{Found}
 use Rattle.scopes.specs.declared.names.Found.TheVariants as found
 use Rattle.scopes.specs.Finding.{find}
@@ -17,6 +19,8 @@ use Rattle.scopes.specs.Steps.{State, Resolves}
 use Rattle.readings.specs.Spelt.{code_pair, code_term, named_of, plain_of}
 use Rattle.readings.proofs.FormLaws.{answer_fits}
 use Rattle.readings.proofs.Applied.{leading, plain_named}
+use Rattle.readings.specs.Shaped.{Becomes, IsTerm, IsPair, Pair as PairAt}
+use Rattle.readings.proofs.Shaping.{Same}
 use Rattle.readings.proofs.Slices.{front_one, rest_after}
 use Rattle.resolver.specs.declared.systems.Pair.{Pair}
 
@@ -57,3 +61,15 @@ four_arguments {P = P} {a = a} {b = b} e f g h = e ∙ ap (λ vs. Argument' P �
 -- what a place that is not there is read as
 abbrev pub no_span : Span
 no_span = record { start = 0; end = 0 }
+
+-- what is no written pair, and what is seen through
+
+pub pair_refused : {E : Type 0} (s : Span) (e : Exp) (r : Result Pair E) → ((c : Code) → IsTerm e c → Becomes (tree_of e) (PairAt s) (PairSide s (shape c) (Leaf s)))
+    → IfOk r (λ p. IsTerm e p.ty × (shape p.equivalence ≡ Leaf s)) → IfOk r (λ p. IsPair s e p.ty p.equivalence)
+pair_refused s e (Ok p) wrap h =
+    record { becomes = subst (λ k. Becomes (tree_of e) (PairAt s) (PairSide s (shape p.ty) k)) (sym h.1) (wrap p.ty h.0) }
+pair_refused s e (Err x) wrap h = tt
+
+pub pair_seen : {E : Type 0} (s : Span) (x e : Exp) (r : Result Pair E) → Same x e → IfOk r (λ p. IsPair s x p.ty p.equivalence) → IfOk r (λ p. IsPair s e p.ty p.equivalence)
+pair_seen s x e (Ok p) same h = record { becomes = same (PairAt s) (PairSide s (shape p.ty) (shape p.equivalence)) h.becomes }
+pair_seen s x e (Err y) same h = tt

@@ -15,7 +15,9 @@ use Rattle.translation.specs.Translated.{Translated, Refuses, judgements_of}
 use Rattle.translation.specs.Names.{Word}
 use Rattle.translation.specs.Texts.{Written, reading, block, defs, word}
 use Rattle.codes.specs.Codes.{meaning, definitions, body_of}
+use Rattle.codes.specs.Shapes.{shape, def_shape, listed}
 use Rattle.scopes.specs.Steps.{count_from}
+use Rattle.readings.specs.Shaped.{Becomes, Become, Term}
 
 -- The names of other modules, each with the body that its number has in a code's scope.
 abbrev pub entry : Scope ℕ → ScopeName → Entry Word
@@ -99,3 +101,15 @@ IsFaultOf bytes names m fault =
 -- the numbers in scope are those of earlier definitions
 abbrev pub AreEarlier : ℕ → List ScopeName → Type 0
 AreEarlier next = All (λ n. n.def < next)
+
+-- The code is made of the forms of the text, each with the piece of the text that it spells.
+
+abbrev pub IsSpelt : text.Tree → Code → Type 0
+IsSpelt e c = Becomes e Term (shape c)
+
+abbrev pub definitions_of : text.Tree → text.Trees
+definitions_of (text.Module name imports ds) = ds
+definitions_of _ = text.none
+
+abbrev pub AreSpelt : text.Tree → Codes → Type 0
+AreSpelt m codes = Become (definitions_of m) (listed def_shape (defs_in codes))

@@ -7,6 +7,7 @@ ghost use Rattle.translation.specs.Texts.{word};
 ghost use Rattle.scopes.specs.declared.names.Found.TheVariants.{BuiltIn as a_built_in};
 ghost use Rattle.scopes.specs.Finding.{find};
 ghost use Rattle.scopes.specs.Steps.{Resolves};
+ghost use Rattle.readings.specs.Shaped.{AreElements, IsApplied, IsElement, IsTerm};
 ghost use Rattle.readings.specs.Spelt.{
   Applies,
   code_element,
@@ -36,8 +37,9 @@ impl<'a> Resolver<'a> {
     #[cycle(resolve)]
     pub(crate) fn applied(&self, place: &mut Place<'a>, exp: &Exp) -> Result<Code, AllocError>
         requires { IsApply exp.now }
-        ensures { IfOk result (λ c. Resolves place.old place.new
+        ensures resolves { IfOk result (λ c. Resolves place.old place.new
             (term_of self.now.names.bytes.now exp.now) (code_term c)) }
+        ensures spelt { IfOk result (λ c. IsTerm exp.now c) }
     {
         let Exp::Apply {
             span,
@@ -61,8 +63,9 @@ impl<'a> Resolver<'a> {
     #[cycle(resolve)]
     pub(crate) fn project(&self, place: &mut Place<'a>, exp: &Exp) -> Result<Code, AllocError>
         requires { IsProject exp.now }
-        ensures { IfOk result (λ c. Resolves place.old place.new
+        ensures resolves { IfOk result (λ c. Resolves place.old place.new
             (term_of self.now.names.bytes.now exp.now) (code_term c)) }
+        ensures spelt { IfOk result (λ c. IsTerm exp.now c) }
     {
         let Exp::Project {
             span,
@@ -86,8 +89,9 @@ impl<'a> Resolver<'a> {
         name: Span,
         elements: &[syntax::Element],
     ) -> Result<Code, AllocError>
-        ensures { IfOk result (λ c. Resolves place.old place.new
+        ensures resolves { IfOk result (λ c. Resolves place.old place.new
             (named_of self.now.names.bytes.now name elements.now) (code_term c)) }
+        ensures spelt { IfOk result (λ c. IsApplied span name elements.now c) }
     {
         match place.find(self.names.spelling(name)) {
             Found::BuiltIn(BuiltIn::Suc) => self.suc(place, span, name, elements),
@@ -112,8 +116,9 @@ impl<'a> Resolver<'a> {
     ) -> Result<Code, AllocError>
         requires { find place.old.names (word self.now.names.bytes.now name)
             ≡ a_built_in the_successor }
-        ensures { IfOk result (λ c. Resolves place.old place.new
+        ensures resolves { IfOk result (λ c. Resolves place.old place.new
             (named_of self.now.names.bytes.now name elements.now) (code_term c)) }
+        ensures spelt { IfOk result (λ c. IsApplied span name elements.now c) }
     {
         let Some((argument, rest)) = first_argument(elements) else {
             return self.plain(place, span, name, elements);
@@ -135,8 +140,9 @@ impl<'a> Resolver<'a> {
     ) -> Result<Code, AllocError>
         requires { find place.old.names (word self.now.names.bytes.now name)
             ≡ a_built_in the_recursor }
-        ensures { IfOk result (λ c. Resolves place.old place.new
+        ensures resolves { IfOk result (λ c. Resolves place.old place.new
             (named_of self.now.names.bytes.now name elements.now) (code_term c)) }
+        ensures spelt { IfOk result (λ c. IsApplied span name elements.now c) }
     {
         let Some((motive, rest)) = first_argument(elements) else {
             return self.plain(place, span, name, elements);
@@ -169,8 +175,9 @@ impl<'a> Resolver<'a> {
         name: Span,
         elements: &[syntax::Element],
     ) -> Result<Code, AllocError>
-        ensures { IfOk result (λ c. Resolves place.old place.new
+        ensures resolves { IfOk result (λ c. Resolves place.old place.new
             (plain_of self.now.names.bytes.now name elements.now) (code_term c)) }
+        ensures spelt { IfOk result (λ c. IsApplied span name elements.now c) }
     {
         let head = self.names.name(place, name)?;
         let elements = self.elements(place, elements)?;
@@ -184,8 +191,9 @@ impl<'a> Resolver<'a> {
         place: &mut Place<'a>,
         elements: &[syntax::Element],
     ) -> Result<Vec<Element>, AllocError>
-        ensures { IfOk result (λ es. Applies place.old place.new
+        ensures resolves { IfOk result (λ es. Applies place.old place.new
             (elements_of self.now.names.bytes.now elements.now) (code_elements es.items)) }
+        ensures spelt { IfOk result (λ es. AreElements elements.now es.items) }
     {
         let mut resolved = Vec::new(self.names.alloc);
         for element in elements {
@@ -200,8 +208,9 @@ impl<'a> Resolver<'a> {
         place: &mut Place<'a>,
         element: &syntax::Element,
     ) -> Result<Element, AllocError>
-        ensures { IfOk result (λ e. Applies place.old place.new
+        ensures resolves { IfOk result (λ e. Applies place.old place.new
             (element_of self.now.names.bytes.now element.now ∷ []) (code_element e ∷ [])) }
+        ensures spelt { IfOk result (λ e. IsElement element.now e) }
     {
         match element {
             Argument(exp) => Ok(Element::Argument(self.exp(place, exp)?)),

@@ -2,6 +2,7 @@
 
 ghost use Rattle.std.specs.Prelude.{IfOk};
 ghost use Rattle.scopes.specs.Steps.{Resolves};
+ghost use Rattle.readings.specs.Shaped.{IsTerm};
 ghost use Rattle.readings.specs.Spelt.{code_term, term_of};
 ghost use Rattle.resolver.specs.Forms.{IsArrow, IsLambda, IsLet, IsPathLambda, IsPi, IsSigma};
 
@@ -17,8 +18,9 @@ impl<'a> Resolver<'a> {
     #[cycle(resolve)]
     pub(crate) fn let_in(&self, place: &mut Place<'a>, exp: &Exp) -> Result<Code, AllocError>
         requires { IsLet exp.now }
-        ensures { IfOk result (λ c. Resolves place.old place.new
+        ensures resolves { IfOk result (λ c. Resolves place.old place.new
             (term_of self.now.names.bytes.now exp.now) (code_term c)) }
+        ensures spelt { IfOk result (λ c. IsTerm exp.now c) }
     {
         let Exp::Let { span, defs, body } = exp else {
             unreachable!();
@@ -34,8 +36,9 @@ impl<'a> Resolver<'a> {
     #[cycle(resolve)]
     pub(crate) fn lambda(&self, place: &mut Place<'a>, exp: &Exp) -> Result<Code, AllocError>
         requires { IsLambda exp.now }
-        ensures { IfOk result (λ c. Resolves place.old place.new
+        ensures resolves { IfOk result (λ c. Resolves place.old place.new
             (term_of self.now.names.bytes.now exp.now) (code_term c)) }
+        ensures spelt { IfOk result (λ c. IsTerm exp.now c) }
     {
         let Exp::Lambda { span, teles, body } = exp else {
             unreachable!();
@@ -51,8 +54,9 @@ impl<'a> Resolver<'a> {
     #[cycle(resolve)]
     pub(crate) fn path_lambda(&self, place: &mut Place<'a>, exp: &Exp) -> Result<Code, AllocError>
         requires { IsPathLambda exp.now }
-        ensures { IfOk result (λ c. Resolves place.old place.new
+        ensures resolves { IfOk result (λ c. Resolves place.old place.new
             (term_of self.now.names.bytes.now exp.now) (code_term c)) }
+        ensures spelt { IfOk result (λ c. IsTerm exp.now c) }
     {
         let Exp::PathLambda { span, names, body } = exp else {
             unreachable!();
@@ -69,8 +73,9 @@ impl<'a> Resolver<'a> {
     #[cycle(resolve)]
     pub(crate) fn pi(&self, place: &mut Place<'a>, exp: &Exp) -> Result<Code, AllocError>
         requires { IsPi exp.now }
-        ensures { IfOk result (λ c. Resolves place.old place.new
+        ensures resolves { IfOk result (λ c. Resolves place.old place.new
             (term_of self.now.names.bytes.now exp.now) (code_term c)) }
+        ensures spelt { IfOk result (λ c. IsTerm exp.now c) }
     {
         let Exp::Pi { span, teles, body } = exp else {
             unreachable!();
@@ -86,8 +91,9 @@ impl<'a> Resolver<'a> {
     #[cycle(resolve)]
     pub(crate) fn sigma(&self, place: &mut Place<'a>, exp: &Exp) -> Result<Code, AllocError>
         requires { IsSigma exp.now }
-        ensures { IfOk result (λ c. Resolves place.old place.new
+        ensures resolves { IfOk result (λ c. Resolves place.old place.new
             (term_of self.now.names.bytes.now exp.now) (code_term c)) }
+        ensures spelt { IfOk result (λ c. IsTerm exp.now c) }
     {
         let Exp::Sigma { span, teles, body } = exp else {
             unreachable!();
@@ -103,8 +109,9 @@ impl<'a> Resolver<'a> {
     #[cycle(resolve)]
     pub(crate) fn arrow(&self, place: &mut Place<'a>, exp: &Exp) -> Result<Code, AllocError>
         requires { IsArrow exp.now }
-        ensures { IfOk result (λ c. Resolves place.old place.new
+        ensures resolves { IfOk result (λ c. Resolves place.old place.new
             (term_of self.now.names.bytes.now exp.now) (code_term c)) }
+        ensures spelt { IfOk result (λ c. IsTerm exp.now c) }
     {
         let Exp::Arrow { span, from, to } = exp else {
             unreachable!();

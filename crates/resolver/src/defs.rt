@@ -4,6 +4,7 @@ ghost use Rattle.std.specs.Prelude.{◌≡◌, IfOk};
 ghost use Rattle.syntax.specs.declared.exp.Def.{out-Def};
 ghost use Rattle.codes.specs.declared.code.CodeDef.{out-CodeDef};
 ghost use Rattle.scopes.specs.Steps.{Binds, Defines, Opens};
+ghost use Rattle.readings.specs.Shaped.{AreBinders, AreDefs, IsDef};
 ghost use Rattle.readings.specs.Spelt.{
   binders_of,
   block_of,
@@ -34,6 +35,7 @@ impl<'a> Resolver<'a> {
     ) -> Result<Vec<CodeDef>, AllocError>
         ensures opens { IfOk result (λ cs. Opens place.old place.new
             (block_of self.now.names.bytes.now defs.now) (code_block cs.items)) }
+        ensures spelt { IfOk result (λ cs. AreDefs defs.now cs.items) }
         ensures named { IfOk result (λ cs. code_names cs.items ≡ def_names defs.now) }
     {
         let first = place.next();
@@ -51,6 +53,7 @@ impl<'a> Resolver<'a> {
     fn def(&self, place: &mut Place<'a>, def: &Def) -> Result<CodeDef, AllocError>
         ensures defines { IfOk result (λ c. Defines place.old place.new (number_of c)
             (means_of self.now.names.bytes.now def.now) (code_def c)) }
+        ensures spelt { IfOk result (λ c. IsDef def.now c) }
         ensures named { IfOk result (λ c. (out-CodeDef c).name ≡ (out-Def def.now).name) }
     {
         let mark = place.mark();
@@ -71,8 +74,9 @@ impl<'a> Resolver<'a> {
         place: &mut Place<'a>,
         teles: &[Tele],
     ) -> Result<Vec<Binder>, AllocError>
-        ensures { IfOk result (λ bs. Binds place.old place.new
+        ensures resolves { IfOk result (λ bs. Binds place.old place.new
             (binders_of self.now.names.bytes.now teles.now) (code_binders bs.items)) }
+        ensures spelt { IfOk result (λ bs. AreBinders teles.now bs.items) }
     {
         let mut binders = Vec::new(self.names.alloc);
         for tele in teles {

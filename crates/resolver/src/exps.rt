@@ -3,6 +3,7 @@
 ghost use Rattle.std.specs.Prelude.{IfOk, map};
 ghost use Rattle.translation.specs.Forms.{tuple as tupled};
 ghost use Rattle.scopes.specs.Steps.{Resolves};
+ghost use Rattle.readings.specs.Shaped.{AreTerms, IsTerm, IsTuple};
 ghost use Rattle.readings.specs.Spelt.{code_term, code_terms, term_of, terms_of};
 
 use crate::resolving::Resolver;
@@ -18,8 +19,9 @@ impl<'a> Resolver<'a> {
     /// own, so that deep texts take little stack.
     #[cycle(resolve)]
     pub(crate) fn exp(&self, place: &mut Place<'a>, exp: &Exp) -> Result<Code, AllocError>
-        ensures { IfOk result (λ c. Resolves place.old place.new
+        ensures resolves { IfOk result (λ c. Resolves place.old place.new
             (term_of self.now.names.bytes.now exp.now) (code_term c)) }
+        ensures spelt { IfOk result (λ c. IsTerm exp.now c) }
     {
         match exp {
             Exp::Let { .. } => self.let_in(place, exp),
@@ -53,9 +55,10 @@ impl<'a> Resolver<'a> {
         span: Span,
         components: &[Exp],
     ) -> Result<Code, AllocError>
-        ensures { let bytes = self.now.names.bytes.now in
+        ensures resolves { let bytes = self.now.names.bytes.now in
             IfOk result (λ c. Resolves place.old place.new
             (tupled (map (term_of bytes) components.now)) (code_term c)) }
+        ensures spelt { IfOk result (λ c. IsTuple span components.now c) }
     {
         Ok(tuple(span, self.exps(place, components)?))
     }
@@ -63,8 +66,9 @@ impl<'a> Resolver<'a> {
     /// Expressions, in order.
     #[cycle(resolve)]
     pub(crate) fn exps(&self, place: &mut Place<'a>, exps: &[Exp]) -> Result<Vec<Code>, AllocError>
-        ensures { IfOk result (λ cs. Resolves place.old place.new
+        ensures resolves { IfOk result (λ cs. Resolves place.old place.new
             (terms_of self.now.names.bytes.now exps.now) (code_terms cs.items)) }
+        ensures spelt { IfOk result (λ cs. AreTerms exps.now cs.items) }
     {
         let mut resolved = Vec::new(self.names.alloc);
         for exp in exps {

@@ -2,6 +2,7 @@
 
 ghost use Rattle.std.specs.Prelude.{IfOk};
 ghost use Rattle.scopes.specs.Steps.{Resolves};
+ghost use Rattle.readings.specs.Shaped.{IsTerm};
 ghost use Rattle.readings.specs.Spelt.{code_term, term_of};
 ghost use Rattle.resolver.specs.Forms.{IsGlueTerm, IsGlueType, IsUnglue};
 
@@ -16,8 +17,9 @@ impl<'a> Resolver<'a> {
     #[cycle(resolve)]
     pub(crate) fn glue_type(&self, place: &mut Place<'a>, exp: &Exp) -> Result<Code, AllocError>
         requires { IsGlueType exp.now }
-        ensures { IfOk result (λ c. Resolves place.old place.new
+        ensures resolves { IfOk result (λ c. Resolves place.old place.new
             (term_of self.now.names.bytes.now exp.now) (code_term c)) }
+        ensures spelt { IfOk result (λ c. IsTerm exp.now c) }
     {
         let Exp::GlueType { span, base, sides } = exp else {
             unreachable!();
@@ -31,8 +33,9 @@ impl<'a> Resolver<'a> {
     #[cycle(resolve)]
     pub(crate) fn glue_term(&self, place: &mut Place<'a>, exp: &Exp) -> Result<Code, AllocError>
         requires { IsGlueTerm exp.now }
-        ensures { IfOk result (λ c. Resolves place.old place.new
+        ensures resolves { IfOk result (λ c. Resolves place.old place.new
             (term_of self.now.names.bytes.now exp.now) (code_term c)) }
+        ensures spelt { IfOk result (λ c. IsTerm exp.now c) }
     {
         let Exp::GlueTerm { span, base, sides } = exp else {
             unreachable!();
@@ -46,8 +49,9 @@ impl<'a> Resolver<'a> {
     #[cycle(resolve)]
     pub(crate) fn unglue(&self, place: &mut Place<'a>, exp: &Exp) -> Result<Code, AllocError>
         requires { IsUnglue exp.now }
-        ensures { IfOk result (λ c. Resolves place.old place.new
+        ensures resolves { IfOk result (λ c. Resolves place.old place.new
             (term_of self.now.names.bytes.now exp.now) (code_term c)) }
+        ensures spelt { IfOk result (λ c. IsTerm exp.now c) }
     {
         let Exp::Unglue { span, base, sides } = exp else {
             unreachable!();

@@ -2,6 +2,7 @@
 
 ghost use Rattle.std.specs.Prelude.{IfOk};
 ghost use Rattle.scopes.specs.Steps.{Resolves};
+ghost use Rattle.readings.specs.Shaped.{IsTerm};
 ghost use Rattle.readings.specs.Spelt.{code_term, term_of};
 ghost use Rattle.resolver.specs.Forms.{IsComp, IsFill, IsPathType, IsTransport};
 
@@ -17,8 +18,9 @@ impl<'a> Resolver<'a> {
     #[cycle(resolve)]
     pub(crate) fn path_type(&self, place: &mut Place<'a>, exp: &Exp) -> Result<Code, AllocError>
         requires { IsPathType exp.now }
-        ensures { IfOk result (λ c. Resolves place.old place.new
+        ensures resolves { IfOk result (λ c. Resolves place.old place.new
             (term_of self.now.names.bytes.now exp.now) (code_term c)) }
+        ensures spelt { IfOk result (λ c. IsTerm exp.now c) }
     {
         let Exp::PathP {
             span,
@@ -39,8 +41,9 @@ impl<'a> Resolver<'a> {
     #[cycle(resolve)]
     pub(crate) fn comp(&self, place: &mut Place<'a>, exp: &Exp) -> Result<Code, AllocError>
         requires { IsComp exp.now }
-        ensures { IfOk result (λ c. Resolves place.old place.new
+        ensures resolves { IfOk result (λ c. Resolves place.old place.new
             (term_of self.now.names.bytes.now exp.now) (code_term c)) }
+        ensures spelt { IfOk result (λ c. IsTerm exp.now c) }
     {
         let Exp::Comp {
             span,
@@ -61,8 +64,9 @@ impl<'a> Resolver<'a> {
     #[cycle(resolve)]
     pub(crate) fn fill(&self, place: &mut Place<'a>, exp: &Exp) -> Result<Code, AllocError>
         requires { IsFill exp.now }
-        ensures { IfOk result (λ c. Resolves place.old place.new
+        ensures resolves { IfOk result (λ c. Resolves place.old place.new
             (term_of self.now.names.bytes.now exp.now) (code_term c)) }
+        ensures spelt { IfOk result (λ c. IsTerm exp.now c) }
     {
         let Exp::Fill {
             span,
@@ -83,8 +87,9 @@ impl<'a> Resolver<'a> {
     #[cycle(resolve)]
     pub(crate) fn transport(&self, place: &mut Place<'a>, exp: &Exp) -> Result<Code, AllocError>
         requires { IsTransport exp.now }
-        ensures { IfOk result (λ c. Resolves place.old place.new
+        ensures resolves { IfOk result (λ c. Resolves place.old place.new
             (term_of self.now.names.bytes.now exp.now) (code_term c)) }
+        ensures spelt { IfOk result (λ c. IsTerm exp.now c) }
     {
         let Exp::Transport { span, line, base } = exp else {
             unreachable!();

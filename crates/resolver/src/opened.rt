@@ -2,6 +2,7 @@
 
 ghost use Rattle.std.specs.Prelude.{IfOk};
 ghost use Rattle.scopes.specs.Steps.{Resolves};
+ghost use Rattle.readings.specs.Shaped.{IsLine, IsMotive};
 ghost use Rattle.readings.specs.Spelt.{code_line, code_motive, line_of, motive_of};
 
 use crate::resolving::Resolver;
@@ -21,8 +22,9 @@ impl<'a> Resolver<'a> {
         span: Span,
         exp: &Exp,
     ) -> Result<Opened, AllocError>
-        ensures { IfOk result (λ l. Resolves place.old place.new
+        ensures resolves { IfOk result (λ l. Resolves place.old place.new
             (line_of self.now.names.bytes.now exp.now) (code_line l)) }
+        ensures spelt { IfOk result (λ l. IsLine span exp.now l) }
     {
         match exp {
             Exp::Brackets {
@@ -62,8 +64,9 @@ impl<'a> Resolver<'a> {
         span: Span,
         exp: &Exp,
     ) -> Result<Opened, AllocError>
-        ensures { IfOk result (λ m. Resolves place.old place.new
+        ensures resolves { IfOk result (λ m. Resolves place.old place.new
             (motive_of self.now.names.bytes.now exp.now) (code_motive m)) }
+        ensures spelt { IfOk result (λ m. IsMotive span exp.now m) }
     {
         match exp {
             Exp::Brackets {

@@ -2,8 +2,8 @@
 
 ghost use Rattle.std.specs.Prelude.{◌≡◌, [], ◌∷◌, ◌++◌, IfErr, IfOk, OnErr, OnOk};
 ghost use Rattle.syntax.specs.View.{module_of, tree_of};
-ghost use Rattle.resolver.specs.Resolved.{AreCodes, AreEarlier, IsCode, IsFault, IsFaultOf};
-ghost use Rattle.resolver.specs.Resolved.{defs_in};
+ghost use Rattle.resolver.specs.Resolved.{AreCodes, AreEarlier, AreSpelt, IsCode, IsFault};
+ghost use Rattle.resolver.specs.Resolved.{defs_in, IsFaultOf, IsSpelt};
 
 use codes::{Code, CodeDef};
 use references::References;
@@ -76,6 +76,7 @@ pub fn resolve(
     requires { AreEarlier scope.now.next scope.now.names }
     ensures ok { let now = scope.now in
         IfOk result (AreCodes bytes.now now.names now.next (module_of «module».now)) }
+    ensures spelt { IfOk result (λ codes. AreSpelt (module_of «module».now) codes) }
     ensures err { IfErr result (IsFaultOf bytes.now scope.now.names (module_of «module».now)) }
 {
     let Ok(mut place) = Place::new(alloc, scope) else {
@@ -106,6 +107,7 @@ pub fn resolve_exp(
     requires { AreEarlier scope.now.next scope.now.names }
     ensures ok { let now = scope.now in
         IfOk result (IsCode bytes.now now.names now.next (tree_of exp.now)) }
+    ensures spelt { IfOk result (λ code. IsSpelt (tree_of exp.now) code) }
     ensures err { IfErr result (IsFault bytes.now scope.now.names (tree_of exp.now)) }
 {
     let Ok(mut place) = Place::new(alloc, scope) else {

@@ -1,7 +1,9 @@
 //! The sides of systems.
 
-ghost use Rattle.std.specs.Prelude.{IfOk};
+ghost use Rattle.std.specs.Prelude.{◌≡◌, IfOk};
+ghost use Rattle.codes.specs.Shapes.{shape, Leaf as a_leaf};
 ghost use Rattle.scopes.specs.Steps.{Resolves};
+ghost use Rattle.readings.specs.Shaped.{AreLineSides, ArePairSides, AreSides, IsPair, IsTerm};
 ghost use Rattle.readings.specs.Spelt.{
   code_line_sides,
   code_pair,
@@ -38,8 +40,9 @@ impl<'a> Resolver<'a> {
         place: &mut Place<'a>,
         sides: &[syntax::Side],
     ) -> Result<Vec<Side>, AllocError>
-        ensures { IfOk result (λ ss. Resolves place.old place.new
+        ensures resolves { IfOk result (λ ss. Resolves place.old place.new
             (term_sides_of self.now.names.bytes.now sides.now) (code_term_sides ss.items)) }
+        ensures spelt { IfOk result (λ ss. AreSides sides.now ss.items) }
     {
         let mut resolved = Vec::new(self.names.alloc);
         for side in sides {
@@ -62,8 +65,9 @@ impl<'a> Resolver<'a> {
         place: &mut Place<'a>,
         sides: &[syntax::Side],
     ) -> Result<Vec<LineSide>, AllocError>
-        ensures { IfOk result (λ ss. Resolves place.old place.new
+        ensures resolves { IfOk result (λ ss. Resolves place.old place.new
             (line_sides_of self.now.names.bytes.now sides.now) (code_line_sides ss.items)) }
+        ensures spelt { IfOk result (λ ss. AreLineSides sides.now ss.items) }
     {
         let mut resolved = Vec::new(self.names.alloc);
         for side in sides {
@@ -81,8 +85,9 @@ impl<'a> Resolver<'a> {
         place: &mut Place<'a>,
         sides: &[syntax::Side],
     ) -> Result<Vec<PairSide>, AllocError>
-        ensures { IfOk result (λ ss. Resolves place.old place.new
+        ensures resolves { IfOk result (λ ss. Resolves place.old place.new
             (pair_sides_of self.now.names.bytes.now sides.now) (code_pair_sides ss.items)) }
+        ensures spelt { IfOk result (λ ss. ArePairSides sides.now ss.items) }
     {
         let mut resolved = Vec::new(self.names.alloc);
         for side in sides {
@@ -102,8 +107,9 @@ impl<'a> Resolver<'a> {
     /// A written pair, in any brackets; the span is that of the text with all of them.
     #[cycle(resolve)]
     fn pair(&self, place: &mut Place<'a>, span: Span, exp: &Exp) -> Result<Pair, AllocError>
-        ensures { IfOk result (λ p. Resolves place.old place.new
+        ensures resolves { IfOk result (λ p. Resolves place.old place.new
             (pair_of self.now.names.bytes.now span.start exp.now) (code_pair p.ty p.equivalence)) }
+        ensures spelt { IfOk result (λ p. IsPair span exp.now p.ty p.equivalence) }
     {
         match exp {
             Exp::Brackets {
@@ -135,9 +141,11 @@ impl<'a> Resolver<'a> {
     /// A side that is no written pair.
     #[cycle(resolve)]
     fn no_pair(&self, place: &mut Place<'a>, span: Span, exp: &Exp) -> Result<Pair, AllocError>
-        ensures { IfOk result (λ p. Resolves place.old place.new
+        ensures resolves { IfOk result (λ p. Resolves place.old place.new
             (no_pair_of self.now.names.bytes.now span.start exp.now)
             (code_pair p.ty p.equivalence)) }
+        ensures spelt { IfOk result (λ p.
+            IsTerm exp.now p.ty × (shape p.equivalence ≡ a_leaf span)) }
     {
         let ty = self.exp(place, exp)?;
         place.refuse(span.start, Cause::GlueSide);

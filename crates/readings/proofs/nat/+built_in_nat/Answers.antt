@@ -4,73 +4,88 @@ use Rattle.scopes.specs.Finding.{find}
 use Rattle.readings.proofs.NatLaws.{is_nat, is_not_nat}
 use Rattle.readings.proofs.Slices.{only_one, begins, none}
 use Rattle.readings.proofs.Others.{inside_brackets, inside_path, same_nat, several_nat, names_nat, other_nat}
+use Rattle.readings.proofs.Shaping.{brackets_seen, path_seen, name_seen, is_name}
 use Rattle.readings.proofs.nat.+built_in_nat.Goals as goal
 
-pub returns-in-BuiltIn-Nat : goal.returns-in-BuiltIn-Nat
-returns-in-BuiltIn-Nat t c G H a =
+pub returns-in-BuiltIn-Nat-clause-told : goal.returns-in-BuiltIn-Nat-clause-told
+returns-in-BuiltIn-Nat-clause-told t c G H a =
     let s = c.args.place.now in
     is_nat c.args.names.now.bytes.now c.in-Name.span c.find.result c.in-Name.is (c.find.ensures ∙ ap (find s.names) c.spelling.ensures) G H a (let i = c.in-BuiltIn-Nat.is in let j = c.in-BuiltIn-Nat.field-0-is in cc)
 
-pub returns-in-empty : goal.returns-in-empty
-returns-in-empty t c G H a =
+pub returns-in-empty-clause-told : goal.returns-in-empty-clause-told
+returns-in-empty-clause-told t c G H a =
     several_nat c.args.names.now.bytes.now c.in-Brackets.span c.in-Brackets.components G c.in-Brackets.is c.as_slice.ensures (λ e. omega (arith, c.in-empty.len_below))
 
-pub returns-in-len1 : goal.returns-in-len1
-returns-in-len1 t c G H a =
+pub returns-in-len1-clause-told : goal.returns-in-len1-clause-told
+returns-in-len1-clause-told t c G H a =
     let bytes = c.args.names.now.bytes.now in
     let one = only_one c.as_slice.result.now c.only-item.result (omega (arith, c.in-len1.len_at_least, c.in-len1.len_below)) c.only-item.is in
-    same_nat bytes _ _ (inside_brackets bytes c.in-Brackets.span c.in-Brackets.components c.in-Brackets.is c.as_slice.ensures one) G ∙ c.built_in_nat.ensures G H a
+    same_nat bytes _ _ (inside_brackets bytes c.in-Brackets.span c.in-Brackets.components c.in-Brackets.is c.as_slice.ensures one) G ∙ c.built_in_nat.ensures.told G H a
 
-pub returns-in-len2-up : goal.returns-in-len2-up
-returns-in-len2-up t c G H a =
+pub returns-in-len2-up-clause-told : goal.returns-in-len2-up-clause-told
+returns-in-len2-up-clause-told t c G H a =
     several_nat c.args.names.now.bytes.now c.in-Brackets.span c.in-Brackets.components G c.in-Brackets.is c.as_slice.ensures (λ e. omega (arith, c.in-len2-up.len_at_least))
 
-pub returns-in-empty-as_slice : goal.returns-in-empty-as_slice
-returns-in-empty-as_slice t c G H a =
+pub returns-in-empty-as_slice-clause-told : goal.returns-in-empty-as_slice-clause-told
+returns-in-empty-as_slice-clause-told t c G H a =
     let bytes = c.args.names.now.bytes.now in
     let empty = none c.as_slice-in-PathLambda.result.now (omega (arith, c.in-empty-as_slice.len_below)) in
     same_nat bytes _ _ (inside_path bytes c.in-PathLambda.span c.in-PathLambda.bound c.in-PathLambda.body c.in-PathLambda.is c.as_slice-in-PathLambda.ensures empty c.deref.ensures) G
-    ∙ c.built_in_nat-in-empty-as_slice.ensures G H a
+    ∙ c.built_in_nat-in-empty-as_slice.ensures.told G H a
 
-pub returns-in_default : goal.returns-in_default
-returns-in_default t c G H a = other_nat c.args.names.now.bytes.now c.args.exp.now c.in_default.not-Name c.in_default.not-Brackets c.in_default.not-PathLambda G
+pub returns-in_default-clause-told : goal.returns-in_default-clause-told
+returns-in_default-clause-told t c G H a = other_nat c.args.names.now.bytes.now c.args.exp.now c.in_default.not-Name c.in_default.not-Brackets c.in_default.not-PathLambda G
 
-pub returns-in-len1-up : goal.returns-in-len1-up
-returns-in-len1-up t c G H a =
+pub returns-in-len1-up-clause-told : goal.returns-in-len1-up-clause-told
+returns-in-len1-up-clause-told t c G H a =
     let first = begins c.as_slice-in-PathLambda.result.now c.in-len1-up.len_at_least in
     names_nat c.args.names.now.bytes.now c.in-PathLambda.span first.0 _ c.in-PathLambda.body G c.in-PathLambda.is (sym c.as_slice-in-PathLambda.ensures ∙ first.1)
 
-pub returns-in-BuiltIn-Zero : goal.returns-in-BuiltIn-Zero
-returns-in-BuiltIn-Zero t c G H a =
+pub returns-in-BuiltIn-Zero-clause-told : goal.returns-in-BuiltIn-Zero-clause-told
+returns-in-BuiltIn-Zero-clause-told t c G H a =
     let s = c.args.place.now in
     is_not_nat c.args.names.now.bytes.now c.in-Name.span c.find.result c.in-Name.is (c.find.ensures ∙ ap (find s.names) c.spelling.ensures) G H a (λ e. let i = c.in-BuiltIn-Zero.is in let j = c.in-BuiltIn-Zero.field-0-is in cc)
 
-pub returns-in-BuiltIn-Suc : goal.returns-in-BuiltIn-Suc
-returns-in-BuiltIn-Suc t c G H a =
+pub returns-in-BuiltIn-Suc-clause-told : goal.returns-in-BuiltIn-Suc-clause-told
+returns-in-BuiltIn-Suc-clause-told t c G H a =
     let s = c.args.place.now in
     is_not_nat c.args.names.now.bytes.now c.in-Name.span c.find.result c.in-Name.is (c.find.ensures ∙ ap (find s.names) c.spelling.ensures) G H a (λ e. let i = c.in-BuiltIn-Suc.is in let j = c.in-BuiltIn-Suc.field-0-is in cc)
 
-pub returns-in-BuiltIn-NatRec : goal.returns-in-BuiltIn-NatRec
-returns-in-BuiltIn-NatRec t c G H a =
+pub returns-in-BuiltIn-NatRec-clause-told : goal.returns-in-BuiltIn-NatRec-clause-told
+returns-in-BuiltIn-NatRec-clause-told t c G H a =
     let s = c.args.place.now in
     is_not_nat c.args.names.now.bytes.now c.in-Name.span c.find.result c.in-Name.is (c.find.ensures ∙ ap (find s.names) c.spelling.ensures) G H a (λ e. let i = c.in-BuiltIn-NatRec.is in let j = c.in-BuiltIn-NatRec.field-0-is in cc)
 
-pub returns-in-Variable : goal.returns-in-Variable
-returns-in-Variable t c G H a =
+pub returns-in-Variable-clause-told : goal.returns-in-Variable-clause-told
+returns-in-Variable-clause-told t c G H a =
     let s = c.args.place.now in
     is_not_nat c.args.names.now.bytes.now c.in-Name.span c.find.result c.in-Name.is (c.find.ensures ∙ ap (find s.names) c.spelling.ensures) G H a (λ e. let i = c.in-Variable.is in cc)
 
-pub returns-in-Interval : goal.returns-in-Interval
-returns-in-Interval t c G H a =
+pub returns-in-Interval-clause-told : goal.returns-in-Interval-clause-told
+returns-in-Interval-clause-told t c G H a =
     let s = c.args.place.now in
     is_not_nat c.args.names.now.bytes.now c.in-Name.span c.find.result c.in-Name.is (c.find.ensures ∙ ap (find s.names) c.spelling.ensures) G H a (λ e. let i = c.in-Interval.is in cc)
 
-pub returns-in-Definition : goal.returns-in-Definition
-returns-in-Definition t c G H a =
+pub returns-in-Definition-clause-told : goal.returns-in-Definition-clause-told
+returns-in-Definition-clause-told t c G H a =
     let s = c.args.place.now in
     is_not_nat c.args.names.now.bytes.now c.in-Name.span c.find.result c.in-Name.is (c.find.ensures ∙ ap (find s.names) c.spelling.ensures) G H a (λ e. let i = c.in-Definition.is in cc)
 
-pub returns-in-Nothing : goal.returns-in-Nothing
-returns-in-Nothing t c G H a =
+pub returns-in-Nothing-clause-told : goal.returns-in-Nothing-clause-told
+returns-in-Nothing-clause-told t c G H a =
     let s = c.args.place.now in
     is_not_nat c.args.names.now.bytes.now c.in-Name.span c.find.result c.in-Name.is (c.find.ensures ∙ ap (find s.names) c.spelling.ensures) G H a (λ e. let i = c.in-Nothing.is in cc)
+
+pub returns-in-BuiltIn-Nat-clause-named : goal.returns-in-BuiltIn-Nat-clause-named
+returns-in-BuiltIn-Nat-clause-named t c s e = is_name c.in-Name.span s c.in-Name.is (cc)
+
+pub returns-in-len1-clause-named : goal.returns-in-len1-clause-named
+returns-in-len1-clause-named t c s e =
+    let one = only_one c.as_slice.result.now c.only-item.result (omega (arith, c.in-len1.len_at_least, c.in-len1.len_below)) c.only-item.is in
+    name_seen (brackets_seen c.in-Brackets.span c.in-Brackets.components c.in-Brackets.is c.as_slice.ensures one) (c.built_in_nat.ensures.named s e)
+
+pub returns-in-empty-as_slice-clause-named : goal.returns-in-empty-as_slice-clause-named
+returns-in-empty-as_slice-clause-named t c s e =
+    let empty = none c.as_slice-in-PathLambda.result.now (omega (arith, c.in-empty-as_slice.len_below)) in
+    name_seen (path_seen c.in-PathLambda.span c.in-PathLambda.bound c.in-PathLambda.body c.in-PathLambda.is c.as_slice-in-PathLambda.ensures empty c.deref.ensures)
+    (c.built_in_nat-in-empty-as_slice.ensures.named s e)

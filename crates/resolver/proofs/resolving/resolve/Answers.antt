@@ -1,5 +1,6 @@
 use Rattle.std.proofs.Common.{sym, ◌∙◌}
 use Rattle.resolver.proofs.Wholes.{codes_hold, codes_refused}
+use Rattle.readings.proofs.Shaping.{block_spelt}
 use Rattle.resolver.proofs.resolving.resolve.Goals as goal
 
 pub returns-in-None-clause-ok : goal.returns-in-None-clause-ok
@@ -9,3 +10,6 @@ returns-in-None-clause-ok c =
 pub returns-clause-err : goal.returns-clause-err
 returns-clause-err c =
     codes_refused c.args.scope.now.names c.args.scope.now.next c.args.bytes.now _ _ c.args.module.now _ _ c.in-Some.refusal c.fault.result c.requires c.in-Ok.ensures c.as_slice.ensures c.in-Ok-block.ensures.opens (sym c.refusal.ensures ∙ c.in-Some.is) c.fault.ensures
+
+pub returns-in-None-clause-spelt : goal.returns-in-None-clause-spelt
+returns-in-None-clause-spelt c = block_spelt c.args.module.now.defs c.as_slice.ensures c.in-Ok-block.ensures.spelt

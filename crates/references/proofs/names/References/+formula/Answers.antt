@@ -1,33 +1,55 @@
 use Rattle.std.proofs.Common.{◌≡◌, ap, sym, ◌∙◌}
+use Rattle.syntax.specs.Tree as text
 use Rattle.syntax.specs.View.{formula_of}
+use Rattle.codes.specs.Shapes.{formula_shape}
 use Rattle.translation.specs.Forms.{one, two}
 use Rattle.translation.specs.Terms.{neg, min, max}
 use Rattle.translation.specs.Texts.{formula as the_formula}
 use Rattle.scopes.proofs.Moving.{resolves_one, resolves_two}
-use Rattle.references.proofs.Parts.{returned}
+use Rattle.references.proofs.Parts.{returned, shaped_as}
 use Rattle.references.proofs.names.References.+formula.Goals as goal
 
-pub returns-in_ok-formula-in-Negate : goal.returns-in_ok-formula-in-Negate
-returns-in_ok-formula-in-Negate t c =
+pub returns-in_ok-formula-in-Negate-clause-resolves : goal.returns-in_ok-formula-in-Negate-clause-resolves
+returns-in_ok-formula-in-Negate-clause-resolves t c =
     let bytes = c.args.self.now.bytes.now in
-    returned c.negate.result c.negate.ensures
+    returned c.negate.result c.negate.ensures.means
     (ap (λ f. the_formula bytes (formula_of f)) c.in-Negate.is ∙ ap (λ f. one neg (the_formula bytes (formula_of f))) (sym c.deref.ensures))
-    (resolves_one neg _ _ _ _ c.in_ok-formula-in-Negate.ensures)
+    (resolves_one neg _ _ _ _ c.in_ok-formula-in-Negate.ensures.resolves)
 
-pub returns-in_ok-right-in-Meet : goal.returns-in_ok-right-in-Meet
-returns-in_ok-right-in-Meet t c =
+pub returns-in_ok-right-in-Meet-clause-resolves : goal.returns-in_ok-right-in-Meet-clause-resolves
+returns-in_ok-right-in-Meet-clause-resolves t c =
     let bytes = c.args.self.now.bytes.now in
-    returned c.meet.result c.meet.ensures
+    returned c.meet.result c.meet.ensures.means
     (ap (λ f. the_formula bytes (formula_of f)) c.in-Meet.is
     ∙ ap (λ f. two min (the_formula bytes (formula_of f)) (the_formula bytes (formula_of c.in-Meet.right.value))) (sym c.deref-in-Meet.ensures)
     ∙ ap (λ f. two min (the_formula bytes (formula_of c.deref-in-Meet.result.now)) (the_formula bytes (formula_of f))) (sym c.deref-in-Meet-2.ensures))
-    (resolves_two min _ _ _ _ _ _ _ c.in_ok-left-in-Meet.ensures c.in_ok-right-in-Meet.ensures)
+    (resolves_two min _ _ _ _ _ _ _ c.in_ok-left-in-Meet.ensures.resolves c.in_ok-right-in-Meet.ensures.resolves)
 
-pub returns-in_ok-right-in-Join : goal.returns-in_ok-right-in-Join
-returns-in_ok-right-in-Join t c =
+pub returns-in_ok-right-in-Join-clause-resolves : goal.returns-in_ok-right-in-Join-clause-resolves
+returns-in_ok-right-in-Join-clause-resolves t c =
     let bytes = c.args.self.now.bytes.now in
-    returned c.join.result c.join.ensures
+    returned c.join.result c.join.ensures.means
     (ap (λ f. the_formula bytes (formula_of f)) c.in-Join.is
     ∙ ap (λ f. two max (the_formula bytes (formula_of f)) (the_formula bytes (formula_of c.in-Join.right.value))) (sym c.deref-in-Join.ensures)
     ∙ ap (λ f. two max (the_formula bytes (formula_of c.deref-in-Join.result.now)) (the_formula bytes (formula_of f))) (sym c.deref-in-Join-2.ensures))
-    (resolves_two max _ _ _ _ _ _ _ c.in_ok-left-in-Join.ensures c.in_ok-right-in-Join.ensures)
+    (resolves_two max _ _ _ _ _ _ _ c.in_ok-left-in-Join.ensures.resolves c.in_ok-right-in-Join.ensures.resolves)
+
+pub returns-in_ok-formula-in-Negate-clause-shaped : goal.returns-in_ok-formula-in-Negate-clause-shaped
+returns-in_ok-formula-in-Negate-clause-shaped t c =
+    shaped_as c.negate.result c.negate.ensures.shaped
+    (ap (text.Negate c.in-Negate.span) (c.in_ok-formula-in-Negate.ensures.shaped ∙ ap formula_of c.deref.ensures)
+    ∙ sym (ap formula_of c.in-Negate.is))
+
+pub returns-in_ok-right-in-Meet-clause-shaped : goal.returns-in_ok-right-in-Meet-clause-shaped
+returns-in_ok-right-in-Meet-clause-shaped t c =
+    shaped_as c.meet.result c.meet.ensures.shaped
+    (ap (text.Meet c.in-Meet.span (formula_shape c.in_ok-left-in-Meet.left)) (c.in_ok-right-in-Meet.ensures.shaped ∙ ap formula_of c.deref-in-Meet-2.ensures)
+    ∙ ap (λ f. text.Meet c.in-Meet.span f (formula_of c.in-Meet.right.value)) (c.in_ok-left-in-Meet.ensures.shaped ∙ ap formula_of c.deref-in-Meet.ensures)
+    ∙ sym (ap formula_of c.in-Meet.is))
+
+pub returns-in_ok-right-in-Join-clause-shaped : goal.returns-in_ok-right-in-Join-clause-shaped
+returns-in_ok-right-in-Join-clause-shaped t c =
+    shaped_as c.join.result c.join.ensures.shaped
+    (ap (text.Join c.in-Join.span (formula_shape c.in_ok-left-in-Join.left)) (c.in_ok-right-in-Join.ensures.shaped ∙ ap formula_of c.deref-in-Join-2.ensures)
+    ∙ ap (λ f. text.Join c.in-Join.span f (formula_of c.in-Join.right.value)) (c.in_ok-left-in-Join.ensures.shaped ∙ ap formula_of c.deref-in-Join.ensures)
+    ∙ sym (ap formula_of c.in-Join.is))

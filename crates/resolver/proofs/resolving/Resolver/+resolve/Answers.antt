@@ -1,4 +1,4 @@
-use Rattle.std.proofs.Common.{◌∷◌, length, get_or, map, is_some, refl, sym, ap, ◌∙◌, subst, arith}
+use Rattle.std.proofs.Common.{◌∷◌, length, get_or, map, is_some, inl, refl, sym, ap, ◌∙◌, subst, arith}
 use Rattle.codes.specs.declared.code.CodeDef.{out-CodeDef}
 use Rattle.readings.specs.Spelt.{plain_of, words_of}
 use Rattle.translation.specs.Terms.{lam, pi, sig}
@@ -13,7 +13,7 @@ use Rattle.readings.proofs.Slices.{rest_after, none, only_one, begins, front_one
 use Rattle.readings.proofs.Others.{inside_brackets, inside_path, same_line, same_motive, same_pair, several_line, several_motive, none_pair, several_pair, names_line, names_motive, names_pair, bare_motive, other_type, no_variable, first_variable, other_line, other_motive, other_pair}
 use Rattle.readings.proofs.Openings.{applied_line, applied_motive, written_line, written_motive}
 use Rattle.readings.proofs.Applied.{leading_none, leading_more, suc_named, natrec_named}
-use Rattle.resolver.proofs.Answered.{few_named, four_arguments, front_any, made_answers, no_span, other_named, pair_answer_is}
+use Rattle.resolver.proofs.Answered.{few_named, four_arguments, front_any, made_answers, no_span, other_named, pair_answer_is, pair_refused, pair_seen}
 use Rattle.layout_lexer.specs.declared.token.Span.{Span}
 use Rattle.readings.proofs.Definitions.{def_resolves}
 use Rattle.readings.specs.Spelt.{code_terms, motive_of, terms_of}
@@ -21,346 +21,413 @@ use Rattle.scopes.specs.Finding.{find}
 use Rattle.scopes.specs.Steps.{Resolves, bound_to}
 use Rattle.scopes.specs.declared.names.Found.TheVariants as found
 use Rattle.translation.specs.declared.built_in.BuiltIn.TheVariants as built_in
+use Rattle.readings.proofs.Shaping.{made, let_tree, lambda_tree, pi_tree, sigma_tree, path_lambda_tree, arrow_tree, apply_tree, path_type_tree, comp_tree, fill_tree, transport_tree, glue_type_tree, glue_term_tree, unglue_tree, project_tree, under_names, line_at, named_term, universe_term, name_term, brackets_term, tuple_spelt, made_applied, suc_applied, natrec_applied, argument_spelt, at_spelt, brackets_seen, path_seen, line_seen, motive_seen, line_wrapped, motive_wrapped, pair_wrapped, several_line_spelt, several_motive_spelt, names_motive_spelt, lambda_motive_spelt, none_pair_spelt, names_pair_spelt, written_line_spelt, bare_motive_spelt, opened_motive_spelt, several_pair_spelt, def_spelt, terms_spelt_none, terms_spelt_more, elements_spelt_none, elements_spelt_more, binders_spelt_none, binders_spelt_more, defs_spelt_none, defs_spelt_more, sides_spelt_none, sides_spelt_more, line_sides_spelt_none, line_sides_spelt_more, pair_sides_spelt_none, pair_sides_spelt_more}
 use Rattle.resolver.proofs.resolving.Resolver.+resolve.Goals as goal
 
 -- texts that bind names
 
-pub let_in-returns : goal.let_in-returns
-let_in-returns t c =
+pub let_in-returns-clause-resolves : goal.let_in-returns-clause-resolves
+let_in-returns-clause-resolves t c =
     let bytes = c.args.self.now.names.bytes.now in
-    answered c.let_in.result c.let_in.ensures
+    answered c.let_in.result c.let_in.ensures.means
     (text_is (let_is bytes c.in-Let.span c.in-Let.defs c.in-Let.body c.in-Let.is c.as_slice.ensures c.deref.ensures)
-    (let_resolves bytes _ _ _ _ c.mark-mark.ensures c.in_ok-locals.ensures.opens c.in_ok-body.ensures c.cut.ensures))
+    (let_resolves bytes _ _ _ _ c.mark-mark.ensures c.in_ok-locals.ensures.opens c.in_ok-body.ensures.resolves c.cut.ensures))
 
-pub lambda-returns : goal.lambda-returns
-lambda-returns t c =
+pub lambda-returns-clause-resolves : goal.lambda-returns-clause-resolves
+lambda-returns-clause-resolves t c =
     let bytes = c.args.self.now.names.bytes.now in
-    answered c.lambda.result c.lambda.ensures
+    answered c.lambda.result c.lambda.ensures.means
     (text_is (lambda_is bytes c.in-Lambda.span c.in-Lambda.teles c.in-Lambda.body c.in-Lambda.is c.as_slice.ensures c.deref.ensures)
-    (under_resolves lam bytes _ _ _ _ c.mark-mark.ensures c.in_ok-binders.ensures c.in_ok-body.ensures c.cut.ensures))
+    (under_resolves lam bytes _ _ _ _ c.mark-mark.ensures c.in_ok-binders.ensures.resolves c.in_ok-body.ensures.resolves c.cut.ensures))
 
-pub path_lambda-returns : goal.path_lambda-returns
-path_lambda-returns t c =
+pub path_lambda-returns-clause-resolves : goal.path_lambda-returns-clause-resolves
+path_lambda-returns-clause-resolves t c =
     let bytes = c.args.self.now.names.bytes.now in
-    answered c.path_lambda.result c.path_lambda.ensures
+    answered c.path_lambda.result c.path_lambda.ensures.means
     (text_is (path_lambda_is bytes c.in-PathLambda.span c.in-PathLambda.names c.in-PathLambda.body c.in-PathLambda.is c.as_slice-names.ensures c.deref.ensures)
-    (path_lambda_resolves bytes c.as_slice-names.result.now _ _ c.mark-mark.ensures refl c.in_ok-bind_all.ensures c.in_ok-body.ensures c.cut.ensures))
+    (path_lambda_resolves bytes c.as_slice-names.result.now _ _ c.mark-mark.ensures refl c.in_ok-bind_all.ensures c.in_ok-body.ensures.resolves c.cut.ensures))
 
-pub pi-returns : goal.pi-returns
-pi-returns t c =
+pub pi-returns-clause-resolves : goal.pi-returns-clause-resolves
+pi-returns-clause-resolves t c =
     let bytes = c.args.self.now.names.bytes.now in
-    answered c.pi.result c.pi.ensures
+    answered c.pi.result c.pi.ensures.means
     (text_is (pi_is bytes c.in-Pi.span c.in-Pi.teles c.in-Pi.body c.in-Pi.is c.as_slice.ensures c.deref.ensures)
-    (under_resolves pi bytes _ _ _ _ c.mark-mark.ensures c.in_ok-binders.ensures c.in_ok-body.ensures c.cut.ensures))
+    (under_resolves pi bytes _ _ _ _ c.mark-mark.ensures c.in_ok-binders.ensures.resolves c.in_ok-body.ensures.resolves c.cut.ensures))
 
-pub sigma-returns : goal.sigma-returns
-sigma-returns t c =
+pub sigma-returns-clause-resolves : goal.sigma-returns-clause-resolves
+sigma-returns-clause-resolves t c =
     let bytes = c.args.self.now.names.bytes.now in
-    answered c.sigma.result c.sigma.ensures
+    answered c.sigma.result c.sigma.ensures.means
     (text_is (sigma_is bytes c.in-Sigma.span c.in-Sigma.teles c.in-Sigma.body c.in-Sigma.is c.as_slice.ensures c.deref.ensures)
-    (under_resolves sig bytes _ _ _ _ c.mark-mark.ensures c.in_ok-binders.ensures c.in_ok-body.ensures c.cut.ensures))
+    (under_resolves sig bytes _ _ _ _ c.mark-mark.ensures c.in_ok-binders.ensures.resolves c.in_ok-body.ensures.resolves c.cut.ensures))
 
-pub arrow-returns : goal.arrow-returns
-arrow-returns t c =
+pub arrow-returns-clause-resolves : goal.arrow-returns-clause-resolves
+arrow-returns-clause-resolves t c =
     let bytes = c.args.self.now.names.bytes.now in
-    answered c.arrow.result c.arrow.ensures
+    answered c.arrow.result c.arrow.ensures.means
     (text_is (arrow_is bytes c.in-Arrow.span c.in-Arrow.from c.in-Arrow.to c.in-Arrow.is c.deref.ensures c.deref-2.ensures)
-    (arrow_resolves bytes _ _ _ _ c.mark-mark.ensures c.in_ok-from.ensures c.in_ok-bind.ensures.ok c.in_ok-to.ensures c.cut.ensures))
+    (arrow_resolves bytes _ _ _ _ c.mark-mark.ensures c.in_ok-from.ensures.resolves c.in_ok-bind.ensures.ok c.in_ok-to.ensures.resolves c.cut.ensures))
 
 -- types of paths, and compositions
 
-pub path_type-returns : goal.path_type-returns
-path_type-returns t c =
+pub path_type-returns-clause-resolves : goal.path_type-returns-clause-resolves
+path_type-returns-clause-resolves t c =
     let bytes = c.args.self.now.names.bytes.now in
-    answered c.path_type.result c.path_type.ensures
+    answered c.path_type.result c.path_type.ensures.means
     (text_is (path_type_is bytes c.in-PathP.span c.in-PathP.line c.in-PathP.left c.in-PathP.right c.in-PathP.is c.deref-2.ensures c.deref-3.ensures c.deref-4.ensures)
-    (path_type_resolves bytes _ _ _ _ _ _ c.in_ok-line.ensures c.in_ok-left.ensures c.in_ok-right.ensures))
+    (path_type_resolves bytes _ _ _ _ _ _ c.in_ok-line.ensures.resolves c.in_ok-left.ensures.resolves c.in_ok-right.ensures.resolves))
 
-pub comp-returns : goal.comp-returns
-comp-returns t c =
+pub comp-returns-clause-resolves : goal.comp-returns-clause-resolves
+comp-returns-clause-resolves t c =
     let bytes = c.args.self.now.names.bytes.now in
-    answered c.comp.result c.comp.ensures
+    answered c.comp.result c.comp.ensures.means
     (text_is (comp_is bytes c.in-Comp.span c.in-Comp.line c.in-Comp.base c.in-Comp.sides c.in-Comp.is c.deref-2.ensures c.deref-3.ensures c.as_slice.ensures)
-    (comp_resolves bytes _ _ _ _ _ _ c.in_ok-line.ensures c.in_ok-base.ensures c.in_ok-sides.ensures))
+    (comp_resolves bytes _ _ _ _ _ _ c.in_ok-line.ensures.resolves c.in_ok-base.ensures.resolves c.in_ok-sides.ensures.resolves))
 
-pub fill-returns : goal.fill-returns
-fill-returns t c =
+pub fill-returns-clause-resolves : goal.fill-returns-clause-resolves
+fill-returns-clause-resolves t c =
     let bytes = c.args.self.now.names.bytes.now in
-    answered c.fill.result c.fill.ensures
+    answered c.fill.result c.fill.ensures.means
     (text_is (fill_is bytes c.in-Fill.span c.in-Fill.line c.in-Fill.base c.in-Fill.sides c.in-Fill.is c.deref-2.ensures c.deref-3.ensures c.as_slice.ensures)
-    (fill_resolves bytes _ _ _ _ _ _ c.in_ok-line.ensures c.in_ok-base.ensures c.in_ok-sides.ensures))
+    (fill_resolves bytes _ _ _ _ _ _ c.in_ok-line.ensures.resolves c.in_ok-base.ensures.resolves c.in_ok-sides.ensures.resolves))
 
-pub transport-returns : goal.transport-returns
-transport-returns t c =
+pub transport-returns-clause-resolves : goal.transport-returns-clause-resolves
+transport-returns-clause-resolves t c =
     let bytes = c.args.self.now.names.bytes.now in
-    answered c.transport.result c.transport.ensures
+    answered c.transport.result c.transport.ensures.means
     (text_is (transport_is bytes c.in-Transport.span c.in-Transport.line c.in-Transport.base c.in-Transport.is c.deref-2.ensures c.deref-3.ensures)
-    (transport_resolves bytes _ _ _ _ c.in_ok-line.ensures c.in_ok-base.ensures))
+    (transport_resolves bytes _ _ _ _ c.in_ok-line.ensures.resolves c.in_ok-base.ensures.resolves))
 
 -- glueing
 
-pub glue_type-returns : goal.glue_type-returns
-glue_type-returns t c =
+pub glue_type-returns-clause-resolves : goal.glue_type-returns-clause-resolves
+glue_type-returns-clause-resolves t c =
     let bytes = c.args.self.now.names.bytes.now in
-    answered c.glue_type.result c.glue_type.ensures
+    answered c.glue_type.result c.glue_type.ensures.means
     (text_is (glue_type_is bytes c.in-GlueType.span c.in-GlueType.base c.in-GlueType.sides c.in-GlueType.is c.deref.ensures c.as_slice.ensures)
-    (glue_type_resolves bytes _ _ _ _ c.in_ok-base.ensures c.in_ok-sides.ensures))
+    (glue_type_resolves bytes _ _ _ _ c.in_ok-base.ensures.resolves c.in_ok-sides.ensures.resolves))
 
-pub glue_term-returns : goal.glue_term-returns
-glue_term-returns t c =
+pub glue_term-returns-clause-resolves : goal.glue_term-returns-clause-resolves
+glue_term-returns-clause-resolves t c =
     let bytes = c.args.self.now.names.bytes.now in
-    answered c.glue_term.result c.glue_term.ensures
+    answered c.glue_term.result c.glue_term.ensures.means
     (text_is (glue_term_is bytes c.in-GlueTerm.span c.in-GlueTerm.base c.in-GlueTerm.sides c.in-GlueTerm.is c.deref.ensures c.as_slice.ensures)
-    (glue_term_resolves bytes _ _ _ _ c.in_ok-base.ensures c.in_ok-sides.ensures))
+    (glue_term_resolves bytes _ _ _ _ c.in_ok-base.ensures.resolves c.in_ok-sides.ensures.resolves))
 
-pub unglue-returns : goal.unglue-returns
-unglue-returns t c =
+pub unglue-returns-clause-resolves : goal.unglue-returns-clause-resolves
+unglue-returns-clause-resolves t c =
     let bytes = c.args.self.now.names.bytes.now in
-    answered c.unglue.result c.unglue.ensures
+    answered c.unglue.result c.unglue.ensures.means
     (text_is (unglue_is bytes c.in-Unglue.span c.in-Unglue.base c.in-Unglue.sides c.in-Unglue.is c.deref.ensures c.as_slice.ensures)
-    (unglue_resolves bytes _ _ _ _ c.in_ok-base.ensures c.in_ok-sides.ensures))
+    (unglue_resolves bytes _ _ _ _ c.in_ok-base.ensures.resolves c.in_ok-sides.ensures.resolves))
 
 -- what is applied and projected
 
-pub applied-returns-in-Name : goal.applied-returns-in-Name
-applied-returns-in-Name t c =
+pub applied-returns-in-Name-clause-resolves : goal.applied-returns-in-Name-clause-resolves
+applied-returns-in-Name-clause-resolves t c =
     answer_is _ _ c.named.result
     (named_is c.args.self.now.names.bytes.now c.in-Apply.span c.in-Apply.head c.in-Name.name c.in-Apply.elements c.in-Apply.is c.deref.ensures c.in-Name.is c.as_slice.ensures)
-    c.named.ensures
+    c.named.ensures.resolves
 
-pub applied-returns-in_ok-elements-in_default-deref : goal.applied-returns-in_ok-elements-in_default-deref
-applied-returns-in_ok-elements-in_default-deref t c =
+pub applied-returns-in_ok-elements-in_default-deref-clause-resolves : goal.applied-returns-in_ok-elements-in_default-deref-clause-resolves
+applied-returns-in_ok-elements-in_default-deref-clause-resolves t c =
     let bytes = c.args.self.now.names.bytes.now in
-    answered c.apply.result c.apply.ensures
+    answered c.apply.result c.apply.ensures.means
     (text_is (applied_is bytes c.in-Apply.span c.in-Apply.head c.in-Apply.elements c.in-Apply.is c.deref-in_default-deref.ensures (λ n e. c.in_default-deref.not-Name n (c.deref.ensures ∙ e)) c.as_slice-in_default-deref.ensures)
-    (application_resolves bytes _ _ _ _ c.in_ok-head-in_default-deref.ensures c.in_ok-elements-in_default-deref.ensures))
+    (application_resolves bytes _ _ _ _ c.in_ok-head-in_default-deref.ensures.resolves c.in_ok-elements-in_default-deref.ensures.resolves))
 
-pub project-returns : goal.project-returns
-project-returns t c =
+pub project-returns-clause-resolves : goal.project-returns-clause-resolves
+project-returns-clause-resolves t c =
     let bytes = c.args.self.now.names.bytes.now in
-    answered c.projected.result c.projected.ensures
+    answered c.projected.result c.projected.ensures.means
     (text_is (project_is bytes c.in-Project.span c.in-Project.pair c.in-Project.projections c.in-Project.is c.deref.ensures c.as_slice.ensures)
-    (project_resolves bytes _ _ (λ t. project t c.as_slice.result.now) c.in_ok-pair.ensures))
+    (project_resolves bytes _ _ (λ t. project t c.as_slice.result.now) c.in_ok-pair.ensures.resolves))
 
 -- expressions
 
-pub exp-returns-in-Universe : goal.exp-returns-in-Universe
-exp-returns-in-Universe t c = text_is (universe_is c.args.self.now.names.bytes.now c.in-Universe.span c.in-Universe.is) (universe_resolves _ refl)
+pub exp-returns-in-Universe-clause-resolves : goal.exp-returns-in-Universe-clause-resolves
+exp-returns-in-Universe-clause-resolves t c = text_is (universe_is c.args.self.now.names.bytes.now c.in-Universe.span c.in-Universe.is) (universe_resolves _ refl)
 
-pub exp-returns-in-Name : goal.exp-returns-in-Name
-exp-returns-in-Name t c = name_answered _ _ c.name.result (name_is c.args.self.now.names.bytes.now c.in-Name.span c.in-Name.is) c.name.ensures
+pub exp-returns-in-Name-clause-resolves : goal.exp-returns-in-Name-clause-resolves
+exp-returns-in-Name-clause-resolves t c = name_answered _ _ c.name.result (name_is c.args.self.now.names.bytes.now c.in-Name.span c.in-Name.is) c.name.ensures.resolves
 
-pub exp-returns-in-Brackets : goal.exp-returns-in-Brackets
-exp-returns-in-Brackets t c =
+pub exp-returns-in-Brackets-clause-resolves : goal.exp-returns-in-Brackets-clause-resolves
+exp-returns-in-Brackets-clause-resolves t c =
     answer_is _ _ c.brackets.result
     (brackets_is c.args.self.now.names.bytes.now c.in-Brackets.span c.in-Brackets.components c.in-Brackets.is c.as_slice.ensures)
-    c.brackets.ensures
+    c.brackets.ensures.resolves
 
-pub brackets-returns : goal.brackets-returns
-brackets-returns t c = tuple_resolves c.args.self.now.names.bytes.now _ _ _ c.tuple.ensures c.in_ok-exps.ensures
+pub brackets-returns-clause-resolves : goal.brackets-returns-clause-resolves
+brackets-returns-clause-resolves t c = tuple_resolves c.args.self.now.names.bytes.now _ _ _ c.tuple.ensures.means c.in_ok-exps.ensures.resolves
 
 pub exps-loop-exp-init : goal.exps-loop-exp-init
-exps-loop-exp-init t c = exps_none c.args.self.now.names.bytes.now c.args.place.now c.new-resolved.result.items c.new-resolved.ensures.items
+exps-loop-exp-init t c =
+    record {
+      resolves =
+          exps_none c.args.self.now.names.bytes.now c.args.place.now c.new-resolved.result.items c.new-resolved.ensures.items;
+      spelt =
+          terms_spelt_none c.new-resolved.result.items c.new-resolved.ensures.items;
+    }
 
 pub exps-loop-exp-preserved : goal.exps-loop-exp-preserved
 exps-loop-exp-preserved t c =
-    exps_more c.args.self.now.names.bytes.now _ _ _ _ _ _ (one_more c.args.exps.now c.loop-exp.exp-index c.exp-item.result (omega arith) c.exp-item.is)
-    c.in_ok-push.ensures.items c.loop-exp.invariant c.in_ok-exp.ensures
+    record {
+      resolves =
+          exps_more c.args.self.now.names.bytes.now _ _ _ _ _ _ (one_more c.args.exps.now c.loop-exp.exp-index c.exp-item.result (omega arith) c.exp-item.is)
+          c.in_ok-push.ensures.items c.loop-exp.invariant.resolves c.in_ok-exp.ensures.resolves;
+      spelt =
+          terms_spelt_more _ _ _ _ _ _ (one_more c.args.exps.now c.loop-exp.exp-index c.exp-item.result (omega arith) c.exp-item.is) c.in_ok-push.ensures.items c.loop-exp.invariant.spelt c.in_ok-exp.ensures.spelt;
+    }
 
 -- what heads are applied to
 
 pub elements-loop-element-init : goal.elements-loop-element-init
-elements-loop-element-init t c = elements_none c.args.self.now.names.bytes.now c.args.place.now c.new-resolved.result.items c.new-resolved.ensures.items
+elements-loop-element-init t c =
+    record {
+      resolves =
+          elements_none c.args.self.now.names.bytes.now c.args.place.now c.new-resolved.result.items c.new-resolved.ensures.items;
+      spelt =
+          elements_spelt_none c.new-resolved.result.items c.new-resolved.ensures.items;
+    }
 
 pub elements-loop-element-preserved : goal.elements-loop-element-preserved
 elements-loop-element-preserved t c =
-    elements_more c.args.self.now.names.bytes.now _ _ _ _ _ _ (one_more c.args.elements.now c.loop-element.element-index c.element-item.result (omega arith) c.element-item.is)
-    c.in_ok-push.ensures.items c.loop-element.invariant c.in_ok-element.ensures
+    record {
+      resolves =
+          elements_more c.args.self.now.names.bytes.now _ _ _ _ _ _ (one_more c.args.elements.now c.loop-element.element-index c.element-item.result (omega arith) c.element-item.is)
+          c.in_ok-push.ensures.items c.loop-element.invariant.resolves c.in_ok-element.ensures.resolves;
+      spelt =
+          elements_spelt_more _ _ _ _ _ _ (one_more c.args.elements.now c.loop-element.element-index c.element-item.result (omega arith) c.element-item.is) c.in_ok-push.ensures.items c.loop-element.invariant.spelt c.in_ok-element.ensures.spelt;
+    }
 
 -- sides
 
 pub sides-loop-side-init : goal.sides-loop-side-init
-sides-loop-side-init t c = sides_none c.args.self.now.names.bytes.now c.args.place.now c.new-resolved.result.items c.new-resolved.ensures.items
+sides-loop-side-init t c =
+    record {
+      resolves =
+          sides_none c.args.self.now.names.bytes.now c.args.place.now c.new-resolved.result.items c.new-resolved.ensures.items;
+      spelt =
+          sides_spelt_none c.new-resolved.result.items c.new-resolved.ensures.items;
+    }
 
 pub sides-loop-side-preserved : goal.sides-loop-side-preserved
 sides-loop-side-preserved t c =
-    sides_more c.args.self.now.names.bytes.now _ _ _ _ _ _ (one_more c.args.sides.now c.loop-side.side-index c.side-item.result (omega arith) c.side-item.is)
-    c.in_ok-push.ensures.items c.loop-side.invariant (text_is (ap (λ q. all (equations c.args.self.now.names.bytes.now q)) c.as_slice.ensures) c.in_ok-equations.ensures) c.in_ok-body.ensures
+    record {
+      resolves =
+          sides_more c.args.self.now.names.bytes.now _ _ _ _ _ _ (one_more c.args.sides.now c.loop-side.side-index c.side-item.result (omega arith) c.side-item.is)
+          c.in_ok-push.ensures.items c.loop-side.invariant.resolves (text_is (ap (λ q. all (equations c.args.self.now.names.bytes.now q)) c.as_slice.ensures) c.in_ok-equations.ensures) c.in_ok-body.ensures.resolves;
+      spelt =
+          sides_spelt_more _ _ _ _ _ _ (one_more c.args.sides.now c.loop-side.side-index c.side-item.result (omega arith) c.side-item.is) c.in_ok-push.ensures.items c.span_of-span.ensures c.loop-side.invariant.spelt c.in_ok-body.ensures.spelt;
+    }
 
 pub line_sides-loop-side-init : goal.line_sides-loop-side-init
-line_sides-loop-side-init t c = line_sides_none c.args.self.now.names.bytes.now c.args.place.now c.new-resolved.result.items c.new-resolved.ensures.items
+line_sides-loop-side-init t c =
+    record {
+      resolves =
+          line_sides_none c.args.self.now.names.bytes.now c.args.place.now c.new-resolved.result.items c.new-resolved.ensures.items;
+      spelt =
+          line_sides_spelt_none c.new-resolved.result.items c.new-resolved.ensures.items;
+    }
 
 pub line_sides-loop-side-preserved : goal.line_sides-loop-side-preserved
 line_sides-loop-side-preserved t c =
-    line_sides_more c.args.self.now.names.bytes.now _ _ _ _ _ _ (one_more c.args.sides.now c.loop-side.side-index c.side-item.result (omega arith) c.side-item.is)
-    c.in_ok-push.ensures.items c.loop-side.invariant (text_is (ap (λ q. all (equations c.args.self.now.names.bytes.now q)) c.as_slice.ensures) c.in_ok-equations.ensures) c.in_ok-body.ensures
+    record {
+      resolves =
+          line_sides_more c.args.self.now.names.bytes.now _ _ _ _ _ _ (one_more c.args.sides.now c.loop-side.side-index c.side-item.result (omega arith) c.side-item.is)
+          c.in_ok-push.ensures.items c.loop-side.invariant.resolves (text_is (ap (λ q. all (equations c.args.self.now.names.bytes.now q)) c.as_slice.ensures) c.in_ok-equations.ensures) c.in_ok-body.ensures.resolves;
+      spelt =
+          line_sides_spelt_more _ _ _ _ _ _ (one_more c.args.sides.now c.loop-side.side-index c.side-item.result (omega arith) c.side-item.is) c.in_ok-push.ensures.items c.span_of.ensures c.loop-side.invariant.spelt c.in_ok-body.ensures.spelt;
+    }
 
 pub pair_sides-loop-side-init : goal.pair_sides-loop-side-init
-pair_sides-loop-side-init t c = pair_sides_none c.args.self.now.names.bytes.now c.args.place.now c.new-resolved.result.items c.new-resolved.ensures.items
+pair_sides-loop-side-init t c =
+    record {
+      resolves =
+          pair_sides_none c.args.self.now.names.bytes.now c.args.place.now c.new-resolved.result.items c.new-resolved.ensures.items;
+      spelt =
+          pair_sides_spelt_none c.new-resolved.result.items c.new-resolved.ensures.items;
+    }
 
 pub pair_sides-loop-side-preserved : goal.pair_sides-loop-side-preserved
 pair_sides-loop-side-preserved t c =
-    pair_sides_more c.args.self.now.names.bytes.now _ _ _ _ _ _ (one_more c.args.sides.now c.loop-side.side-index c.side-item.result (omega arith) c.side-item.is)
-    c.in_ok-push.ensures.items (ap (λ s. s.start) c.span_of-span.ensures) c.loop-side.invariant (text_is (ap (λ q. all (equations c.args.self.now.names.bytes.now q)) c.as_slice.ensures) c.in_ok-equations.ensures) c.in_ok-pair.ensures
+    record {
+      resolves =
+          pair_sides_more c.args.self.now.names.bytes.now _ _ _ _ _ _ (one_more c.args.sides.now c.loop-side.side-index c.side-item.result (omega arith) c.side-item.is)
+          c.in_ok-push.ensures.items (ap (λ s. s.start) c.span_of-span.ensures) c.loop-side.invariant.resolves (text_is (ap (λ q. all (equations c.args.self.now.names.bytes.now q)) c.as_slice.ensures) c.in_ok-equations.ensures) c.in_ok-pair.ensures.resolves;
+      spelt =
+          pair_sides_spelt_more _ _ _ _ _ _ (one_more c.args.sides.now c.loop-side.side-index c.side-item.result (omega arith) c.side-item.is) c.in_ok-push.ensures.items c.span_of-span.ensures c.loop-side.invariant.spelt c.in_ok-pair.ensures.spelt;
+    }
 
 -- teles and definitions
 
 pub binders-loop-tele-init : goal.binders-loop-tele-init
-binders-loop-tele-init t c = binders_none c.args.self.now.names.bytes.now c.args.place.now c.new-binders.result.items c.new-binders.ensures.items
+binders-loop-tele-init t c =
+    record {
+      resolves =
+          binders_none c.args.self.now.names.bytes.now c.args.place.now c.new-binders.result.items c.new-binders.ensures.items;
+      spelt =
+          binders_spelt_none c.new-binders.result.items c.new-binders.ensures.items;
+    }
 
 pub binders-loop-tele-preserved : goal.binders-loop-tele-preserved
 binders-loop-tele-preserved t c =
-    binders_more c.args.self.now.names.bytes.now _ _ _ _ _ _ (one_more c.args.teles.now c.loop-tele.tele-index c.tele-item.result (omega arith) c.tele-item.is)
-    c.in_ok-push.ensures.items (ap length c.as_slice-names.ensures)
-    (c.in_ok-bind_all.ensures ∙ ap (λ ns. all_bound_to c.exp.new.place (words_of c.args.self.now.names.bytes.now ns) binding.Variable) c.as_slice-names.ensures) c.loop-tele.invariant c.in_ok-ty.ensures
+    record {
+      resolves =
+          binders_more c.args.self.now.names.bytes.now _ _ _ _ _ _ (one_more c.args.teles.now c.loop-tele.tele-index c.tele-item.result (omega arith) c.tele-item.is)
+          c.in_ok-push.ensures.items (ap length c.as_slice-names.ensures)
+          (c.in_ok-bind_all.ensures ∙ ap (λ ns. all_bound_to c.exp.new.place (words_of c.args.self.now.names.bytes.now ns) binding.Variable) c.as_slice-names.ensures) c.loop-tele.invariant.resolves c.in_ok-ty.ensures.resolves;
+      spelt =
+          binders_spelt_more _ _ _ _ _ _ _ (one_more c.args.teles.now c.loop-tele.tele-index c.tele-item.result (omega arith) c.tele-item.is) c.in_ok-push.ensures.items (ap length c.as_slice-names.ensures) c.loop-tele.invariant.spelt c.in_ok-ty.ensures.spelt;
+    }
 
 pub block-loop-def-init : goal.block-loop-def-init
 block-loop-def-init t c =
     let none = block_none c.args.self.now.names.bytes.now c.args.place.now c.new-codes.result.items c.new-codes.ensures.items in
-    record { opens = none.0; seen = none.1; named = ap (map (λ d. (out-CodeDef d).name)) c.new-codes.ensures.items }
+    record { opens = none.0; spelt = defs_spelt_none c.new-codes.result.items c.new-codes.ensures.items; seen = none.1; named = ap (map (λ d. (out-CodeDef d).name)) c.new-codes.ensures.items }
 
 pub block-loop-def-preserved : goal.block-loop-def-preserved
 block-loop-def-preserved t c =
     let i = c.loop-def.invariant in
     let more = one_more c.args.defs.now c.loop-def.def-index c.def-item.result (omega arith) c.def-item.is in
     let new = block_more c.args.self.now.names.bytes.now _ _ _ _ _ _ more c.in_ok-push.ensures.items c.next-first.ensures i.opens i.seen c.in_ok-code.ensures.defines c.in_ok-define.ensures in
-    record { opens = new.0; seen = new.1; named = names_more _ _ _ _ _ _ more c.in_ok-push.ensures.items c.in_ok-code.ensures.named i.named }
+    record { opens = new.0; spelt = defs_spelt_more _ _ _ _ _ _ more c.in_ok-push.ensures.items i.spelt c.in_ok-code.ensures.spelt; seen = new.1; named = names_more _ _ _ _ _ _ more c.in_ok-push.ensures.items c.in_ok-code.ensures.named i.named }
 
 pub def-returns-clause-defines : goal.def-returns-clause-defines
 def-returns-clause-defines t c =
     def_resolves c.args.self.now.names.bytes.now _ _ _ _ _ _ _ _ c.in_ok-body-2.body _ _ c.mark-mark.ensures c.as_slice.ensures c.as_slice-2.ensures refl refl
-    c.in_ok-binders.ensures c.in_ok-ty.ensures c.in_ok-locals.ensures.opens c.in_ok-body.ensures c.cut.ensures
-    c.in_ok-body-2.ensures c.in_ok-number.ensures.ok.0 c.in_ok-number.ensures.ok.1 c.new.ensures.means c.new.ensures.numbered
+    c.in_ok-binders.ensures.resolves c.in_ok-ty.ensures.resolves c.in_ok-locals.ensures.opens c.in_ok-body.ensures.resolves c.cut.ensures
+    c.in_ok-body-2.ensures.means c.in_ok-number.ensures.ok.0 c.in_ok-number.ensures.ok.1 c.new.ensures.means c.new.ensures.numbered
 
 -- names that are applied
 
-pub plain-returns : goal.plain-returns
+pub plain-returns-clause-resolves : goal.plain-returns-clause-resolves
 unfolding plain_of
-plain-returns t c =
-    answered c.apply.result c.apply.ensures
-    (plain_resolves c.args.self.now.names.bytes.now _ c.in_ok-head.head _ c.in_ok-head.ensures c.in_ok-elements.ensures)
+plain-returns-clause-resolves t c =
+    answered c.apply.result c.apply.ensures.means
+    (plain_resolves c.args.self.now.names.bytes.now _ c.in_ok-head.head _ c.in_ok-head.ensures.resolves c.in_ok-elements.ensures.resolves)
 
-pub element-returns-in_ok-exp-in-Argument : goal.element-returns-in_ok-exp-in-Argument
-element-returns-in_ok-exp-in-Argument t c =
-    argument_element c.args.self.now.names.bytes.now c.args.element.now c.in-Argument.exp _ c.in_ok-exp-in-Argument.field-0 c.in-Argument.is refl c.in_ok-exp-in-Argument.ensures
+pub element-returns-in_ok-exp-in-Argument-clause-resolves : goal.element-returns-in_ok-exp-in-Argument-clause-resolves
+element-returns-in_ok-exp-in-Argument-clause-resolves t c =
+    argument_element c.args.self.now.names.bytes.now c.args.element.now c.in-Argument.exp _ c.in_ok-exp-in-Argument.field-0 c.in-Argument.is refl c.in_ok-exp-in-Argument.ensures.resolves
 
-pub element-returns-in_ok-formula-in-At : goal.element-returns-in_ok-formula-in-At
-element-returns-in_ok-formula-in-At t c =
-    at_element c.args.self.now.names.bytes.now c.args.element.now c.in-At.span c.in-At.formula _ c.in_ok-formula-in-At.field-0 c.in-At.is refl c.in_ok-formula-in-At.ensures
+pub element-returns-in_ok-formula-in-At-clause-resolves : goal.element-returns-in_ok-formula-in-At-clause-resolves
+element-returns-in_ok-formula-in-At-clause-resolves t c =
+    at_element c.args.self.now.names.bytes.now c.args.element.now c.in-At.span c.in-At.formula _ c.in_ok-formula-in-At.field-0 c.in-At.is refl c.in_ok-formula-in-At.ensures.resolves
 
 -- lines
 
-pub line-returns-in-len1 : goal.line-returns-in-len1
-line-returns-in-len1 t c =
+pub line-returns-in-len1-clause-resolves : goal.line-returns-in-len1-clause-resolves
+line-returns-in-len1-clause-resolves t c =
     let bytes = c.args.self.now.names.bytes.now in
     let one = only_one c.as_slice.result.now c.only-item.result (omega (arith, c.in-len1.len_at_least, c.in-len1.len_below)) c.only-item.is in
-    line_answer_is _ _ c.line.result (same_line bytes _ _ (inside_brackets bytes c.in-Brackets.span c.in-Brackets.components c.in-Brackets.is c.as_slice.ensures one)) c.line.ensures
+    line_answer_is _ _ c.line.result (same_line bytes _ _ (inside_brackets bytes c.in-Brackets.span c.in-Brackets.components c.in-Brackets.is c.as_slice.ensures one)) c.line.ensures.resolves
 
-pub line-returns-in_ok-exp-in-empty : goal.line-returns-in_ok-exp-in-empty
-line-returns-in_ok-exp-in-empty t c =
+pub line-returns-in_ok-exp-in-empty-clause-resolves : goal.line-returns-in_ok-exp-in-empty-clause-resolves
+line-returns-in_ok-exp-in-empty-clause-resolves t c =
     let bytes = c.args.self.now.names.bytes.now in
     applied_line bytes _ _ _ refl (several_line bytes c.in-Brackets.span c.in-Brackets.components c.in-Brackets.is c.as_slice.ensures (λ e. omega (arith, c.in-empty.len_below)))
-    c.in_ok-exp-in-empty.ensures
+    c.in_ok-exp-in-empty.ensures.resolves
 
-pub line-returns-in_ok-exp-in-len2-up : goal.line-returns-in_ok-exp-in-len2-up
-line-returns-in_ok-exp-in-len2-up t c =
+pub line-returns-in_ok-exp-in-len2-up-clause-resolves : goal.line-returns-in_ok-exp-in-len2-up-clause-resolves
+line-returns-in_ok-exp-in-len2-up-clause-resolves t c =
     let bytes = c.args.self.now.names.bytes.now in
     applied_line bytes _ _ _ refl (several_line bytes c.in-Brackets.span c.in-Brackets.components c.in-Brackets.is c.as_slice.ensures (λ e. omega (arith, c.in-len2-up.len_at_least)))
-    c.in_ok-exp-in-len2-up.ensures
+    c.in_ok-exp-in-len2-up.ensures.resolves
 
-pub line-returns-in-empty-as_slice : goal.line-returns-in-empty-as_slice
-line-returns-in-empty-as_slice t c =
+pub line-returns-in-empty-as_slice-clause-resolves : goal.line-returns-in-empty-as_slice-clause-resolves
+line-returns-in-empty-as_slice-clause-resolves t c =
     let bytes = c.args.self.now.names.bytes.now in
     let empty = none c.as_slice-in-PathLambda.result.now (omega (arith, c.in-empty-as_slice.len_below)) in
     line_answer_is _ _ c.line-in-empty-as_slice.result
     (same_line bytes _ _ (inside_path bytes c.in-PathLambda.span c.in-PathLambda.names c.in-PathLambda.body c.in-PathLambda.is c.as_slice-in-PathLambda.ensures empty c.deref.ensures))
-    c.line-in-empty-as_slice.ensures
+    c.line-in-empty-as_slice.ensures.resolves
 
-pub line-returns-in_ok-body-in-len1-up-2 : goal.line-returns-in_ok-body-in-len1-up-2
-line-returns-in_ok-body-in-len1-up-2 t c =
+pub line-returns-in_ok-body-in-len1-up-2-clause-resolves : goal.line-returns-in_ok-body-in-len1-up-2-clause-resolves
+line-returns-in_ok-body-in-len1-up-2-clause-resolves t c =
     let bytes = c.args.self.now.names.bytes.now in
     let names = c.as_slice-in-PathLambda.result.now in
     let x : Span = get_or names 0 no_span in
     text_is (names_line bytes c.in-PathLambda.span x (rest_after 1 names) c.in-PathLambda.body c.in-PathLambda.is (sym c.as_slice-in-PathLambda.ensures ∙ front_any names no_span c.in-len1-up.len_at_least) c.deref-in-len1-up.ensures)
     (written_line bytes x (rest_after 1 names) _ c.in_ok-body-in-len1-up.body c.in_ok-body-in-len1-up-2.body _ c.mark-mark.ensures refl
     (c.in_ok-bind-in-len1-up.ensures.ok ∙ ap (λ w. bound_to c.args.place.now w binding.Interval) c.spelling.ensures) c.in_ok-bind_all-in-len1-up.ensures
-    c.in_ok-body-in-len1-up.ensures c.cut.ensures c.in_ok-body-in-len1-up-2.ensures refl)
+    c.in_ok-body-in-len1-up.ensures.resolves c.cut.ensures c.in_ok-body-in-len1-up-2.ensures.means refl)
 
-pub line-returns-in_ok-exp-in_default : goal.line-returns-in_ok-exp-in_default
-line-returns-in_ok-exp-in_default t c =
+pub line-returns-in_ok-exp-in_default-clause-resolves : goal.line-returns-in_ok-exp-in_default-clause-resolves
+line-returns-in_ok-exp-in_default-clause-resolves t c =
     let bytes = c.args.self.now.names.bytes.now in
-    applied_line bytes _ _ _ refl (other_line bytes c.args.exp.now c.in_default.not-Brackets c.in_default.not-PathLambda) c.in_ok-exp-in_default.ensures
+    applied_line bytes _ _ _ refl (other_line bytes c.args.exp.now c.in_default.not-Brackets c.in_default.not-PathLambda) c.in_ok-exp-in_default.ensures.resolves
 
 -- motives
 
-pub motive-returns-in-len1 : goal.motive-returns-in-len1
-motive-returns-in-len1 t c =
+pub motive-returns-in-len1-clause-resolves : goal.motive-returns-in-len1-clause-resolves
+motive-returns-in-len1-clause-resolves t c =
     let bytes = c.args.self.now.names.bytes.now in
     let one = only_one c.as_slice.result.now c.only-item.result (omega (arith, c.in-len1.len_at_least, c.in-len1.len_below)) c.only-item.is in
-    motive_answer_is _ _ c.motive.result (same_motive bytes _ _ (inside_brackets bytes c.in-Brackets.span c.in-Brackets.components c.in-Brackets.is c.as_slice.ensures one)) c.motive.ensures
+    motive_answer_is _ _ c.motive.result (same_motive bytes _ _ (inside_brackets bytes c.in-Brackets.span c.in-Brackets.components c.in-Brackets.is c.as_slice.ensures one)) c.motive.ensures.resolves
 
-pub motive-returns-in_ok-exp-in-empty : goal.motive-returns-in_ok-exp-in-empty
-motive-returns-in_ok-exp-in-empty t c =
+pub motive-returns-in_ok-exp-in-empty-clause-resolves : goal.motive-returns-in_ok-exp-in-empty-clause-resolves
+motive-returns-in_ok-exp-in-empty-clause-resolves t c =
     let bytes = c.args.self.now.names.bytes.now in
     let other = several_motive bytes c.in-Brackets.span c.in-Brackets.components c.in-Brackets.is c.as_slice.ensures (λ e. omega (arith, c.in-empty.len_below)) in
-    applied_motive bytes _ _ _ refl (λ G H a. ap (λ m. m G) other) c.in_ok-exp-in-empty.ensures
+    applied_motive bytes _ _ _ refl (λ G H a. ap (λ m. m G) other) c.in_ok-exp-in-empty.ensures.resolves
 
-pub motive-returns-in_ok-exp-in-len2-up : goal.motive-returns-in_ok-exp-in-len2-up
-motive-returns-in_ok-exp-in-len2-up t c =
+pub motive-returns-in_ok-exp-in-len2-up-clause-resolves : goal.motive-returns-in_ok-exp-in-len2-up-clause-resolves
+motive-returns-in_ok-exp-in-len2-up-clause-resolves t c =
     let bytes = c.args.self.now.names.bytes.now in
     let other = several_motive bytes c.in-Brackets.span c.in-Brackets.components c.in-Brackets.is c.as_slice.ensures (λ e. omega (arith, c.in-len2-up.len_at_least)) in
-    applied_motive bytes _ _ _ refl (λ G H a. ap (λ m. m G) other) c.in_ok-exp-in-len2-up.ensures
+    applied_motive bytes _ _ _ refl (λ G H a. ap (λ m. m G) other) c.in_ok-exp-in-len2-up.ensures.resolves
 
-pub motive-returns-in-empty-as_slice : goal.motive-returns-in-empty-as_slice
-motive-returns-in-empty-as_slice t c =
+pub motive-returns-in-empty-as_slice-clause-resolves : goal.motive-returns-in-empty-as_slice-clause-resolves
+motive-returns-in-empty-as_slice-clause-resolves t c =
     let bytes = c.args.self.now.names.bytes.now in
     let empty = none c.as_slice-in-PathLambda.result.now (omega (arith, c.in-empty-as_slice.len_below)) in
     motive_answer_is _ _ c.motive-in-empty-as_slice.result
     (same_motive bytes _ _ (inside_path bytes c.in-PathLambda.span c.in-PathLambda.names c.in-PathLambda.body c.in-PathLambda.is c.as_slice-in-PathLambda.ensures empty c.deref.ensures))
-    c.motive-in-empty-as_slice.ensures
+    c.motive-in-empty-as_slice.ensures.resolves
 
-pub motive-returns-in_ok-exp-in-len1-up : goal.motive-returns-in_ok-exp-in-len1-up
-motive-returns-in_ok-exp-in-len1-up t c =
+pub motive-returns-in_ok-exp-in-len1-up-clause-resolves : goal.motive-returns-in_ok-exp-in-len1-up-clause-resolves
+motive-returns-in_ok-exp-in-len1-up-clause-resolves t c =
     let bytes = c.args.self.now.names.bytes.now in
     let first = begins c.as_slice-in-PathLambda.result.now c.in-len1-up.len_at_least in
     let other = names_motive bytes c.in-PathLambda.span first.0 _ c.in-PathLambda.body c.in-PathLambda.is (sym c.as_slice-in-PathLambda.ensures ∙ first.1) in
-    applied_motive bytes _ _ _ refl (λ G H a. ap (λ m. m G) other) c.in_ok-exp-in-len1-up.ensures
+    applied_motive bytes _ _ _ refl (λ G H a. ap (λ m. m G) other) c.in_ok-exp-in-len1-up.ensures.resolves
 
-pub motive-returns-in_ok-exp-in_default : goal.motive-returns-in_ok-exp-in_default
-motive-returns-in_ok-exp-in_default t c =
+pub motive-returns-in_ok-exp-in_default-clause-resolves : goal.motive-returns-in_ok-exp-in_default-clause-resolves
+motive-returns-in_ok-exp-in_default-clause-resolves t c =
     let bytes = c.args.self.now.names.bytes.now in
     let other = other_motive bytes c.args.exp.now c.in_default.not-Brackets c.in_default.not-PathLambda c.in_default.not-Lambda in
-    applied_motive bytes _ _ _ refl (λ G H a. ap (λ m. m G) other) c.in_ok-exp-in_default.ensures
+    applied_motive bytes _ _ _ refl (λ G H a. ap (λ m. m G) other) c.in_ok-exp-in_default.ensures.resolves
 
 -- pairs
 
-pub no_pair-returns : goal.no_pair-returns
-no_pair-returns t c =
-    no_pair_resolves c.args.self.now.names.bytes.now _ _ _ c.args.span.start refl c.in_ok-ty.ensures c.refuse.ensures
+pub no_pair-returns-clause-resolves : goal.no_pair-returns-clause-resolves
+no_pair-returns-clause-resolves t c =
+    no_pair_resolves c.args.self.now.names.bytes.now _ _ _ c.args.span.start refl c.in_ok-ty.ensures.resolves c.refuse.ensures
 
-pub pair-returns-in_default : goal.pair-returns-in_default
-pair-returns-in_default t c =
+pub pair-returns-in_default-clause-resolves : goal.pair-returns-in_default-clause-resolves
+pair-returns-in_default-clause-resolves t c =
     let bytes = c.args.self.now.names.bytes.now in
-    pair_answer_is _ _ c.no_pair-in_default.result (other_pair bytes c.args.span.start c.args.exp.now c.in_default.not-Brackets c.in_default.not-PathLambda) c.no_pair-in_default.ensures
+    pair_answer_is _ _ c.no_pair-in_default.result (other_pair bytes c.args.span.start c.args.exp.now c.in_default.not-Brackets c.in_default.not-PathLambda) c.no_pair-in_default.ensures.resolves
 
-pub pair-returns-in-empty : goal.pair-returns-in-empty
-pair-returns-in-empty t c =
+pub pair-returns-in-empty-clause-resolves : goal.pair-returns-in-empty-clause-resolves
+pair-returns-in-empty-clause-resolves t c =
     let bytes = c.args.self.now.names.bytes.now in
     let empty = none c.as_slice.result.now (omega (arith, c.in-empty.len_below)) in
-    pair_answer_is _ _ c.no_pair.result (none_pair bytes c.args.span.start c.in-Brackets.inner c.in-Brackets.components c.in-Brackets.is c.as_slice.ensures empty) c.no_pair.ensures
+    pair_answer_is _ _ c.no_pair.result (none_pair bytes c.args.span.start c.in-Brackets.inner c.in-Brackets.components c.in-Brackets.is c.as_slice.ensures empty) c.no_pair.ensures.resolves
 
-pub pair-returns-in-empty-rest : goal.pair-returns-in-empty-rest
-pair-returns-in-empty-rest t c =
+pub pair-returns-in-empty-rest-clause-resolves : goal.pair-returns-in-empty-rest-clause-resolves
+pair-returns-in-empty-rest-clause-resolves t c =
     let bytes = c.args.self.now.names.bytes.now in
     let xs = c.as_slice.result.now in
     let front = front_one xs c.first-item.result c.in-len1-up.len_at_least c.first-item.is in
     let empty = none (rest_after 1 xs) (omega (arith, c.in-empty-rest.len_below)) in
     pair_answer_is _ _ c.pair.result
     (same_pair bytes c.args.span.start _ _ (inside_brackets bytes c.in-Brackets.inner c.in-Brackets.components c.in-Brackets.is c.as_slice.ensures (front ∙ ap (λ ys. c.first-item.result ∷ ys) empty)))
-    c.pair.ensures
+    c.pair.ensures.resolves
 
-pub pair-returns-in_ok-exps-in-len1-up-rest : goal.pair-returns-in_ok-exps-in-len1-up-rest
-pair-returns-in_ok-exps-in-len1-up-rest t c =
+pub pair-returns-in_ok-exps-in-len1-up-rest-clause-resolves : goal.pair-returns-in_ok-exps-in-len1-up-rest-clause-resolves
+pair-returns-in_ok-exps-in-len1-up-rest-clause-resolves t c =
     let bytes = c.args.self.now.names.bytes.now in
     let xs = c.as_slice.result.now in
     let x = c.first-item.result in
@@ -369,45 +436,45 @@ pair-returns-in_ok-exps-in-len1-up-rest t c =
     let ys = second.0 ∷ rest_after 1 (rest_after 1 xs) in
     let cs = c.in_ok-exps-in-len1-up-rest.field-0.items in
     text_is (several_pair bytes c.args.span.start c.in-Brackets.inner c.in-Brackets.components x second.0 (rest_after 1 (rest_after 1 xs)) c.in-Brackets.is c.as_slice.ensures (front ∙ ap (λ zs. x ∷ zs) second.1))
-    (pair_resolves bytes x ys c.in_ok-ty-in-len1-up-rest.ty c.tuple-equivalence.result cs c.tuple-equivalence.ensures c.in_ok-ty-in-len1-up-rest.ensures
-    (subst (λ zs. Resolves c.exp.new.place c.exps.new.place (terms_of bytes zs) (code_terms cs)) second.1 c.in_ok-exps-in-len1-up-rest.ensures))
+    (pair_resolves bytes x ys c.in_ok-ty-in-len1-up-rest.ty c.tuple-equivalence.result cs c.tuple-equivalence.ensures.means c.in_ok-ty-in-len1-up-rest.ensures.resolves
+    (subst (λ zs. Resolves c.exp.new.place c.exps.new.place (terms_of bytes zs) (code_terms cs)) second.1 c.in_ok-exps-in-len1-up-rest.ensures.resolves))
 
-pub pair-returns-in-empty-as_slice : goal.pair-returns-in-empty-as_slice
-pair-returns-in-empty-as_slice t c =
+pub pair-returns-in-empty-as_slice-clause-resolves : goal.pair-returns-in-empty-as_slice-clause-resolves
+pair-returns-in-empty-as_slice-clause-resolves t c =
     let bytes = c.args.self.now.names.bytes.now in
     let empty = none c.as_slice-in-PathLambda.result.now (omega (arith, c.in-empty-as_slice.len_below)) in
     pair_answer_is _ _ c.pair-in-empty-as_slice.result
     (same_pair bytes c.args.span.start _ _ (inside_path bytes c.in-PathLambda.span c.in-PathLambda.names c.in-PathLambda.body c.in-PathLambda.is c.as_slice-in-PathLambda.ensures empty c.deref.ensures))
-    c.pair-in-empty-as_slice.ensures
+    c.pair-in-empty-as_slice.ensures.resolves
 
-pub pair-returns-in-len1-up-as_slice : goal.pair-returns-in-len1-up-as_slice
-pair-returns-in-len1-up-as_slice t c =
+pub pair-returns-in-len1-up-as_slice-clause-resolves : goal.pair-returns-in-len1-up-as_slice-clause-resolves
+pair-returns-in-len1-up-as_slice-clause-resolves t c =
     let bytes = c.args.self.now.names.bytes.now in
     let first = begins c.as_slice-in-PathLambda.result.now c.in-len1-up-as_slice.len_at_least in
     pair_answer_is _ _ c.no_pair-in-len1-up-as_slice.result
     (names_pair bytes c.args.span.start c.in-PathLambda.span first.0 _ c.in-PathLambda.body c.in-PathLambda.is (sym c.as_slice-in-PathLambda.ensures ∙ first.1))
-    c.no_pair-in-len1-up-as_slice.ensures
+    c.no_pair-in-len1-up-as_slice.ensures.resolves
 
-pub motive-returns-in-empty-as_slice-2 : goal.motive-returns-in-empty-as_slice-2
-motive-returns-in-empty-as_slice-2 t c =
+pub motive-returns-in-empty-as_slice-2-clause-resolves : goal.motive-returns-in-empty-as_slice-2-clause-resolves
+motive-returns-in-empty-as_slice-2-clause-resolves t c =
     let bytes = c.args.self.now.names.bytes.now in
     let empty = none c.as_slice-in-Lambda.result.now (omega (arith, c.in-empty-as_slice-2.len_below)) in
     motive_answer_is _ _ c.motive-in-empty-as_slice-2.result
     (bare_motive bytes c.in-Lambda.span c.in-Lambda.teles c.in-Lambda.body c.in-Lambda.is c.as_slice-in-Lambda.ensures empty c.deref-in-empty-as_slice-2.ensures)
-    c.motive-in-empty-as_slice-2.ensures
+    c.motive-in-empty-as_slice-2.ensures.resolves
 
-pub motive-returns-in_ok-exp-in-None-default : goal.motive-returns-in_ok-exp-in-None-default
-motive-returns-in_ok-exp-in-None-default t c =
+pub motive-returns-in_ok-exp-in-None-default-clause-resolves : goal.motive-returns-in_ok-exp-in-None-default-clause-resolves
+motive-returns-in_ok-exp-in-None-default-clause-resolves t c =
     let bytes = c.args.self.now.names.bytes.now in
     let xs = c.as_slice-in-Lambda.result.now in
     let x = c.first-item.result in
     applied_motive bytes _ _ _ refl
     (λ G H a. other_type bytes c.in-Lambda.span c.in-Lambda.teles c.in-Lambda.body x (rest_after 1 xs) c.in-Lambda.is c.as_slice-in-Lambda.ensures
-    (front_one xs x c.in-len1-up-as_slice.len_at_least c.first-item.is) refl G (c.built_in_nat-nat.ensures G H a ∙ ap is_some c.in-None-default.is-0))
-    c.in_ok-exp-in-None-default.ensures
+    (front_one xs x c.in-len1-up-as_slice.len_at_least c.first-item.is) refl G (c.built_in_nat-nat.ensures.told G H a ∙ ap is_some c.in-None-default.is-0))
+    c.in_ok-exp-in-None-default.ensures.resolves
 
-pub motive-returns-in_ok-exp-in-Some-empty : goal.motive-returns-in_ok-exp-in-Some-empty
-motive-returns-in_ok-exp-in-Some-empty t c =
+pub motive-returns-in_ok-exp-in-Some-empty-clause-resolves : goal.motive-returns-in_ok-exp-in-Some-empty-clause-resolves
+motive-returns-in_ok-exp-in-Some-empty-clause-resolves t c =
     let bytes = c.args.self.now.names.bytes.now in
     let xs = c.as_slice-in-Lambda.result.now in
     let x = c.first-item.result in
@@ -415,100 +482,349 @@ motive-returns-in_ok-exp-in-Some-empty t c =
     (λ G H a. no_variable bytes c.in-Lambda.span c.in-Lambda.teles c.in-Lambda.body x (rest_after 1 xs) c.in-Lambda.is c.as_slice-in-Lambda.ensures
     (front_one xs x c.in-len1-up-as_slice.len_at_least c.first-item.is) refl G
     (sym c.as_slice-in-len1-up-as_slice.ensures ∙ none c.as_slice-in-len1-up-as_slice.result.now (omega (arith, c.in-Some-empty.len_below)))
-    (c.built_in_nat-nat.ensures G H a ∙ ap is_some c.in-Some-empty.is-0))
-    c.in_ok-exp-in-Some-empty.ensures
+    (c.built_in_nat-nat.ensures.told G H a ∙ ap is_some c.in-Some-empty.is-0))
+    c.in_ok-exp-in-Some-empty.ensures.resolves
 
-pub motive-returns-in_ok-body-in-Some-len1-up-3 : goal.motive-returns-in_ok-body-in-Some-len1-up-3
-motive-returns-in_ok-body-in-Some-len1-up-3 t c =
+pub motive-returns-in_ok-body-in-Some-len1-up-3-clause-resolves : goal.motive-returns-in_ok-body-in-Some-len1-up-3-clause-resolves
+motive-returns-in_ok-body-in-Some-len1-up-3-clause-resolves t c =
     let bytes = c.args.self.now.names.bytes.now in
     let xs = c.as_slice-in-Lambda.result.now in
     let x = c.first-item.result in
     let names = c.as_slice-in-len1-up-as_slice.result.now in
     let v : Span = get_or names 0 no_span in
     written_motive bytes v (rest_after 1 names) (rest_after 1 xs) _ _ c.in_ok-body-in-Some-len1-up.body c.in_ok-body-in-Some-len1-up-2.body c.in_ok-body-in-Some-len1-up-3.body _ (motive_of bytes c.args.exp.now)
-    c.mark-mark.ensures refl (c.in_ok-bind-in-Some-len1-up.ensures.ok ∙ ap (λ w. bound_to c.args.place.now w binding.Variable) c.spelling.ensures) c.in_ok-bind_all-in-Some-len1-up.ensures c.in_ok-binders-in-Some-len1-up.ensures
-    c.in_ok-body-in-Some-len1-up.ensures c.cut.ensures c.in_ok-body-in-Some-len1-up-2.ensures c.in_ok-body-in-Some-len1-up-3.ensures refl
+    c.mark-mark.ensures refl (c.in_ok-bind-in-Some-len1-up.ensures.ok ∙ ap (λ w. bound_to c.args.place.now w binding.Variable) c.spelling.ensures) c.in_ok-bind_all-in-Some-len1-up.ensures c.in_ok-binders-in-Some-len1-up.ensures.resolves
+    c.in_ok-body-in-Some-len1-up.ensures.resolves c.cut.ensures c.in_ok-body-in-Some-len1-up-2.ensures.means c.in_ok-body-in-Some-len1-up-3.ensures.means refl
     (λ G H a. first_variable bytes c.in-Lambda.span c.in-Lambda.teles c.in-Lambda.body x (rest_after 1 xs) c.in-Lambda.is c.as_slice-in-Lambda.ensures
     (front_one xs x c.in-len1-up-as_slice.len_at_least c.first-item.is) c.deref-in-Some-len1-up.ensures v (rest_after 1 names) G
-    (sym c.as_slice-in-len1-up-as_slice.ensures ∙ front_any names no_span c.in-Some-len1-up.len_at_least) (c.built_in_nat-nat.ensures G H a ∙ ap is_some c.in-Some-len1-up.is-0))
+    (sym c.as_slice-in-len1-up-as_slice.ensures ∙ front_any names no_span c.in-Some-len1-up.len_at_least) (c.built_in_nat-nat.ensures.told G H a ∙ ap is_some c.in-Some-len1-up.is-0))
 
-pub named-returns-in-BuiltIn-Nat : goal.named-returns-in-BuiltIn-Nat
-named-returns-in-BuiltIn-Nat t c =
+pub named-returns-in-BuiltIn-Nat-clause-resolves : goal.named-returns-in-BuiltIn-Nat-clause-resolves
+named-returns-in-BuiltIn-Nat-clause-resolves t c =
     other_named c.args.self.now.names.bytes.now _ _ c.args.name c.args.elements.now c.find.result c.plain.result
-    (c.find.ensures ∙ ap (find c.args.place.now.names) c.spelling.ensures) (λ e. let i = c.in-BuiltIn-Nat.is in let j = c.in-BuiltIn-Nat.field-0-is in cc) (λ e. let i = c.in-BuiltIn-Nat.is in let j = c.in-BuiltIn-Nat.field-0-is in cc) c.plain.ensures
+    (c.find.ensures ∙ ap (find c.args.place.now.names) c.spelling.ensures) (λ e. let i = c.in-BuiltIn-Nat.is in let j = c.in-BuiltIn-Nat.field-0-is in cc) (λ e. let i = c.in-BuiltIn-Nat.is in let j = c.in-BuiltIn-Nat.field-0-is in cc) c.plain.ensures.resolves
 
-pub named-returns-in-BuiltIn-Zero : goal.named-returns-in-BuiltIn-Zero
-named-returns-in-BuiltIn-Zero t c =
+pub named-returns-in-BuiltIn-Zero-clause-resolves : goal.named-returns-in-BuiltIn-Zero-clause-resolves
+named-returns-in-BuiltIn-Zero-clause-resolves t c =
     other_named c.args.self.now.names.bytes.now _ _ c.args.name c.args.elements.now c.find.result c.plain-in-BuiltIn-Zero.result
-    (c.find.ensures ∙ ap (find c.args.place.now.names) c.spelling.ensures) (λ e. let i = c.in-BuiltIn-Zero.is in let j = c.in-BuiltIn-Zero.field-0-is in cc) (λ e. let i = c.in-BuiltIn-Zero.is in let j = c.in-BuiltIn-Zero.field-0-is in cc) c.plain-in-BuiltIn-Zero.ensures
+    (c.find.ensures ∙ ap (find c.args.place.now.names) c.spelling.ensures) (λ e. let i = c.in-BuiltIn-Zero.is in let j = c.in-BuiltIn-Zero.field-0-is in cc) (λ e. let i = c.in-BuiltIn-Zero.is in let j = c.in-BuiltIn-Zero.field-0-is in cc) c.plain-in-BuiltIn-Zero.ensures.resolves
 
-pub named-returns-in-Variable : goal.named-returns-in-Variable
-named-returns-in-Variable t c =
+pub named-returns-in-Variable-clause-resolves : goal.named-returns-in-Variable-clause-resolves
+named-returns-in-Variable-clause-resolves t c =
     other_named c.args.self.now.names.bytes.now _ _ c.args.name c.args.elements.now c.find.result c.plain-in-Variable.result
-    (c.find.ensures ∙ ap (find c.args.place.now.names) c.spelling.ensures) (λ e. let i = c.in-Variable.is in cc) (λ e. let i = c.in-Variable.is in cc) c.plain-in-Variable.ensures
+    (c.find.ensures ∙ ap (find c.args.place.now.names) c.spelling.ensures) (λ e. let i = c.in-Variable.is in cc) (λ e. let i = c.in-Variable.is in cc) c.plain-in-Variable.ensures.resolves
 
-pub named-returns-in-Interval : goal.named-returns-in-Interval
-named-returns-in-Interval t c =
+pub named-returns-in-Interval-clause-resolves : goal.named-returns-in-Interval-clause-resolves
+named-returns-in-Interval-clause-resolves t c =
     other_named c.args.self.now.names.bytes.now _ _ c.args.name c.args.elements.now c.find.result c.plain-in-Interval.result
-    (c.find.ensures ∙ ap (find c.args.place.now.names) c.spelling.ensures) (λ e. let i = c.in-Interval.is in cc) (λ e. let i = c.in-Interval.is in cc) c.plain-in-Interval.ensures
+    (c.find.ensures ∙ ap (find c.args.place.now.names) c.spelling.ensures) (λ e. let i = c.in-Interval.is in cc) (λ e. let i = c.in-Interval.is in cc) c.plain-in-Interval.ensures.resolves
 
-pub named-returns-in-Definition : goal.named-returns-in-Definition
-named-returns-in-Definition t c =
+pub named-returns-in-Definition-clause-resolves : goal.named-returns-in-Definition-clause-resolves
+named-returns-in-Definition-clause-resolves t c =
     other_named c.args.self.now.names.bytes.now _ _ c.args.name c.args.elements.now c.find.result c.plain-in-Definition.result
-    (c.find.ensures ∙ ap (find c.args.place.now.names) c.spelling.ensures) (λ e. let i = c.in-Definition.is in cc) (λ e. let i = c.in-Definition.is in cc) c.plain-in-Definition.ensures
+    (c.find.ensures ∙ ap (find c.args.place.now.names) c.spelling.ensures) (λ e. let i = c.in-Definition.is in cc) (λ e. let i = c.in-Definition.is in cc) c.plain-in-Definition.ensures.resolves
 
-pub named-returns-in-Nothing : goal.named-returns-in-Nothing
-named-returns-in-Nothing t c =
+pub named-returns-in-Nothing-clause-resolves : goal.named-returns-in-Nothing-clause-resolves
+named-returns-in-Nothing-clause-resolves t c =
     other_named c.args.self.now.names.bytes.now _ _ c.args.name c.args.elements.now c.find.result c.plain-in-Nothing.result
-    (c.find.ensures ∙ ap (find c.args.place.now.names) c.spelling.ensures) (λ e. let i = c.in-Nothing.is in cc) (λ e. let i = c.in-Nothing.is in cc) c.plain-in-Nothing.ensures
+    (c.find.ensures ∙ ap (find c.args.place.now.names) c.spelling.ensures) (λ e. let i = c.in-Nothing.is in cc) (λ e. let i = c.in-Nothing.is in cc) c.plain-in-Nothing.ensures.resolves
 
-pub suc-returns-in_default : goal.suc-returns-in_default
-suc-returns-in_default t c =
+pub suc-returns-in_default-clause-resolves : goal.suc-returns-in_default-clause-resolves
+suc-returns-in_default-clause-resolves t c =
     few_named c.args.self.now.names.bytes.now _ _ c.args.name c.args.elements.now (found.BuiltIn built_in.Suc) c.plain.result (sym c.requires)
-    (λ e. leading_none c.args.elements.now c.in_default.ensures) (λ e. absurd (let k = e in cc)) c.plain.ensures
+    (λ e. leading_none c.args.elements.now c.in_default.ensures) (λ e. absurd (let k = e in cc)) c.plain.ensures.resolves
 
-pub suc-returns : goal.suc-returns
-suc-returns t c =
-    made_answers c.apply.result c.apply.ensures
+pub suc-returns-clause-resolves : goal.suc-returns-clause-resolves
+suc-returns-clause-resolves t c =
+    made_answers c.apply.result c.apply.ensures.means
     (λ D whole. suc_named c.args.self.now.names.bytes.now c.args.name c.args.elements.now (found.BuiltIn built_in.Suc) (sym c.requires)
     c.in-Some.argument.now c.in-Some.rest.now c.in_ok-argument.argument c.in_ok-head.head D c.in_ok-elements.elements.items
-    refl c.in-Some.ensures c.in_ok-argument.ensures c.in_ok-head.ensures c.in_ok-elements.ensures whole)
+    refl c.in-Some.ensures c.in_ok-argument.ensures.resolves c.in_ok-head.ensures.means c.in_ok-elements.ensures.resolves whole)
 
-pub natrec-returns-in_default : goal.natrec-returns-in_default
-natrec-returns-in_default t c =
+pub natrec-returns-in_default-clause-resolves : goal.natrec-returns-in_default-clause-resolves
+natrec-returns-in_default-clause-resolves t c =
     let none = leading_none c.args.elements.now c.in_default.ensures in
     few_named c.args.self.now.names.bytes.now _ _ c.args.name c.args.elements.now (found.BuiltIn built_in.NatRec) c.plain.result (sym c.requires)
-    (λ e. absurd (let k = e in cc)) (λ e. omega (arith, none)) c.plain.ensures
+    (λ e. absurd (let k = e in cc)) (λ e. omega (arith, none)) c.plain.ensures.resolves
 
-pub natrec-returns-in_default-first_argument : goal.natrec-returns-in_default-first_argument
-natrec-returns-in_default-first_argument t c =
+pub natrec-returns-in_default-first_argument-clause-resolves : goal.natrec-returns-in_default-first_argument-clause-resolves
+natrec-returns-in_default-first_argument-clause-resolves t c =
     let first = leading_more c.args.elements.now c.in-Some.motive.now c.in-Some.rest.now c.in-Some.ensures in
     let none = leading_none c.in-Some.rest.now c.in_default-first_argument.ensures in
     few_named c.args.self.now.names.bytes.now _ _ c.args.name c.args.elements.now (found.BuiltIn built_in.NatRec) c.plain-in_default-first_argument.result (sym c.requires)
-    (λ e. absurd (let k = e in cc)) (λ e. omega (arith, first, none)) c.plain-in_default-first_argument.ensures
+    (λ e. absurd (let k = e in cc)) (λ e. omega (arith, first, none)) c.plain-in_default-first_argument.ensures.resolves
 
-pub natrec-returns-in_default-first_argument-2 : goal.natrec-returns-in_default-first_argument-2
-natrec-returns-in_default-first_argument-2 t c =
+pub natrec-returns-in_default-first_argument-2-clause-resolves : goal.natrec-returns-in_default-first_argument-2-clause-resolves
+natrec-returns-in_default-first_argument-2-clause-resolves t c =
     let first = leading_more c.args.elements.now c.in-Some.motive.now c.in-Some.rest.now c.in-Some.ensures in
     let second = leading_more c.in-Some.rest.now c.in-Some-first_argument.base.now c.in-Some-first_argument.rest.now c.in-Some-first_argument.ensures in
     let none = leading_none c.in-Some-first_argument.rest.now c.in_default-first_argument-2.ensures in
     few_named c.args.self.now.names.bytes.now _ _ c.args.name c.args.elements.now (found.BuiltIn built_in.NatRec) c.plain-in_default-first_argument-2.result (sym c.requires)
-    (λ e. absurd (let k = e in cc)) (λ e. omega (arith, first, second, none)) c.plain-in_default-first_argument-2.ensures
+    (λ e. absurd (let k = e in cc)) (λ e. omega (arith, first, second, none)) c.plain-in_default-first_argument-2.ensures.resolves
 
-pub natrec-returns-in_default-first_argument-3 : goal.natrec-returns-in_default-first_argument-3
-natrec-returns-in_default-first_argument-3 t c =
+pub natrec-returns-in_default-first_argument-3-clause-resolves : goal.natrec-returns-in_default-first_argument-3-clause-resolves
+natrec-returns-in_default-first_argument-3-clause-resolves t c =
     let first = leading_more c.args.elements.now c.in-Some.motive.now c.in-Some.rest.now c.in-Some.ensures in
     let second = leading_more c.in-Some.rest.now c.in-Some-first_argument.base.now c.in-Some-first_argument.rest.now c.in-Some-first_argument.ensures in
     let third = leading_more c.in-Some-first_argument.rest.now c.in-Some-first_argument-2.step.now c.in-Some-first_argument-2.rest.now c.in-Some-first_argument-2.ensures in
     let none = leading_none c.in-Some-first_argument-2.rest.now c.in_default-first_argument-3.ensures in
     few_named c.args.self.now.names.bytes.now _ _ c.args.name c.args.elements.now (found.BuiltIn built_in.NatRec) c.plain-in_default-first_argument-3.result (sym c.requires)
-    (λ e. absurd (let k = e in cc)) (λ e. omega (arith, first, second, third, none)) c.plain-in_default-first_argument-3.ensures
+    (λ e. absurd (let k = e in cc)) (λ e. omega (arith, first, second, third, none)) c.plain-in_default-first_argument-3.ensures.resolves
 
-pub natrec-returns : goal.natrec-returns
-natrec-returns t c =
+pub natrec-returns-clause-resolves : goal.natrec-returns-clause-resolves
+natrec-returns-clause-resolves t c =
     let four = four_arguments c.in-Some.ensures c.in-Some-first_argument.ensures c.in-Some-first_argument-2.ensures c.in-Some-first_argument-3.ensures in
-    made_answers c.apply.result c.apply.ensures
+    made_answers c.apply.result c.apply.ensures.means
     (λ D whole. natrec_named c.args.self.now.names.bytes.now c.args.name c.args.elements.now (found.BuiltIn built_in.NatRec) (sym c.requires)
     c.in-Some.motive.now c.in-Some-first_argument.base.now c.in-Some-first_argument-2.step.now c.in-Some-first_argument-3.argument.now c.in-Some-first_argument-3.rest.now
     c.in_ok-motive.motive c.in_ok-base.base c.in_ok-step.step c.in_ok-argument.argument c.in_ok-head.head D c.in_ok-elements.elements.items
-    refl four c.in_ok-motive.ensures c.in_ok-base.ensures c.in_ok-step.ensures c.in_ok-argument.ensures c.in_ok-head.ensures c.in_ok-elements.ensures whole)
+    refl four c.in_ok-motive.ensures.resolves c.in_ok-base.ensures.resolves c.in_ok-step.ensures.resolves c.in_ok-argument.ensures.resolves c.in_ok-head.ensures.means c.in_ok-elements.ensures.resolves whole)
+
+-- what the codes are made of
+
+pub let_in-returns-clause-spelt : goal.let_in-returns-clause-spelt
+let_in-returns-clause-spelt t c =
+    made _ _ c.let_in.result c.let_in.ensures.shaped (let_tree c.in-Let.span c.in-Let.defs c.in-Let.body c.in-Let.is c.as_slice.ensures c.deref.ensures)
+    (_, _, refl, c.in_ok-locals.ensures.spelt.become, c.in_ok-body.ensures.spelt.becomes)
+
+pub lambda-returns-clause-spelt : goal.lambda-returns-clause-spelt
+lambda-returns-clause-spelt t c =
+    made _ _ c.lambda.result c.lambda.ensures.shaped (lambda_tree c.in-Lambda.span c.in-Lambda.teles c.in-Lambda.body c.in-Lambda.is c.as_slice.ensures c.deref.ensures)
+    (_, _, refl, c.in_ok-binders.ensures.spelt.become, c.in_ok-body.ensures.spelt.becomes)
+
+pub pi-returns-clause-spelt : goal.pi-returns-clause-spelt
+pi-returns-clause-spelt t c =
+    made _ _ c.pi.result c.pi.ensures.shaped (pi_tree c.in-Pi.span c.in-Pi.teles c.in-Pi.body c.in-Pi.is c.as_slice.ensures c.deref.ensures)
+    (_, _, refl, c.in_ok-binders.ensures.spelt.become, c.in_ok-body.ensures.spelt.becomes)
+
+pub sigma-returns-clause-spelt : goal.sigma-returns-clause-spelt
+sigma-returns-clause-spelt t c =
+    made _ _ c.sigma.result c.sigma.ensures.shaped (sigma_tree c.in-Sigma.span c.in-Sigma.teles c.in-Sigma.body c.in-Sigma.is c.as_slice.ensures c.deref.ensures)
+    (_, _, refl, c.in_ok-binders.ensures.spelt.become, c.in_ok-body.ensures.spelt.becomes)
+
+pub path_lambda-returns-clause-spelt : goal.path_lambda-returns-clause-spelt
+path_lambda-returns-clause-spelt t c =
+    made _ _ c.path_lambda.result c.path_lambda.ensures.shaped (path_lambda_tree c.in-PathLambda.span c.in-PathLambda.names c.in-PathLambda.body c.in-PathLambda.is c.as_slice-names.ensures c.deref.ensures)
+    (under_names c.in-PathLambda.span c.as_slice-names.result.now _ _ c.in_ok-body.ensures.spelt.becomes)
+
+pub arrow-returns-clause-spelt : goal.arrow-returns-clause-spelt
+arrow-returns-clause-spelt t c =
+    made _ _ c.arrow.result c.arrow.ensures.shaped (arrow_tree c.in-Arrow.span c.in-Arrow.from c.in-Arrow.to c.in-Arrow.is c.deref.ensures c.deref-2.ensures)
+    (_, _, refl, c.in_ok-from.ensures.spelt.becomes, c.in_ok-to.ensures.spelt.becomes)
+
+pub path_type-returns-clause-spelt : goal.path_type-returns-clause-spelt
+path_type-returns-clause-spelt t c =
+    made _ _ c.path_type.result c.path_type.ensures.shaped (path_type_tree c.in-PathP.span c.in-PathP.line c.in-PathP.left c.in-PathP.right c.in-PathP.is c.deref-2.ensures c.deref-3.ensures c.deref-4.ensures)
+    (_, _, _, refl, line_at c.span_of.ensures c.deref.ensures c.deref-2.ensures c.in_ok-line.ensures.spelt, c.in_ok-left.ensures.spelt.becomes, c.in_ok-right.ensures.spelt.becomes)
+
+pub comp-returns-clause-spelt : goal.comp-returns-clause-spelt
+comp-returns-clause-spelt t c =
+    made _ _ c.comp.result c.comp.ensures.shaped (comp_tree c.in-Comp.span c.in-Comp.line c.in-Comp.base c.in-Comp.sides c.in-Comp.is c.deref-2.ensures c.deref-3.ensures c.as_slice.ensures)
+    (_, _, _, refl, line_at c.span_of.ensures c.deref.ensures c.deref-2.ensures c.in_ok-line.ensures.spelt, c.in_ok-base.ensures.spelt.becomes, c.in_ok-sides.ensures.spelt.become)
+
+pub fill-returns-clause-spelt : goal.fill-returns-clause-spelt
+fill-returns-clause-spelt t c =
+    made _ _ c.fill.result c.fill.ensures.shaped (fill_tree c.in-Fill.span c.in-Fill.line c.in-Fill.base c.in-Fill.sides c.in-Fill.is c.deref-2.ensures c.deref-3.ensures c.as_slice.ensures)
+    (_, _, _, refl, line_at c.span_of.ensures c.deref.ensures c.deref-2.ensures c.in_ok-line.ensures.spelt, c.in_ok-base.ensures.spelt.becomes, c.in_ok-sides.ensures.spelt.become)
+
+pub transport-returns-clause-spelt : goal.transport-returns-clause-spelt
+transport-returns-clause-spelt t c =
+    made _ _ c.transport.result c.transport.ensures.shaped (transport_tree c.in-Transport.span c.in-Transport.line c.in-Transport.base c.in-Transport.is c.deref-2.ensures c.deref-3.ensures)
+    (_, _, refl, line_at c.span_of.ensures c.deref.ensures c.deref-2.ensures c.in_ok-line.ensures.spelt, c.in_ok-base.ensures.spelt.becomes)
+
+pub glue_type-returns-clause-spelt : goal.glue_type-returns-clause-spelt
+glue_type-returns-clause-spelt t c =
+    made _ _ c.glue_type.result c.glue_type.ensures.shaped (glue_type_tree c.in-GlueType.span c.in-GlueType.base c.in-GlueType.sides c.in-GlueType.is c.deref.ensures c.as_slice.ensures)
+    (_, _, refl, c.in_ok-base.ensures.spelt.becomes, c.in_ok-sides.ensures.spelt.become)
+
+pub glue_term-returns-clause-spelt : goal.glue_term-returns-clause-spelt
+glue_term-returns-clause-spelt t c =
+    made _ _ c.glue_term.result c.glue_term.ensures.shaped (glue_term_tree c.in-GlueTerm.span c.in-GlueTerm.base c.in-GlueTerm.sides c.in-GlueTerm.is c.deref.ensures c.as_slice.ensures)
+    (_, _, refl, c.in_ok-base.ensures.spelt.becomes, c.in_ok-sides.ensures.spelt.become)
+
+pub unglue-returns-clause-spelt : goal.unglue-returns-clause-spelt
+unglue-returns-clause-spelt t c =
+    made _ _ c.unglue.result c.unglue.ensures.shaped (unglue_tree c.in-Unglue.span c.in-Unglue.base c.in-Unglue.sides c.in-Unglue.is c.deref.ensures c.as_slice.ensures)
+    (_, _, refl, c.in_ok-base.ensures.spelt.becomes, c.in_ok-sides.ensures.spelt.become)
+
+pub applied-returns-in-Name-clause-spelt : goal.applied-returns-in-Name-clause-spelt
+applied-returns-in-Name-clause-spelt t c =
+    named_term c.in-Apply.span c.in-Apply.head c.in-Name.name c.in-Apply.elements c.named.result c.in-Apply.is c.deref.ensures c.in-Name.is c.as_slice.ensures c.named.ensures.spelt
+
+pub applied-returns-in_ok-elements-in_default-deref-clause-spelt : goal.applied-returns-in_ok-elements-in_default-deref-clause-spelt
+applied-returns-in_ok-elements-in_default-deref-clause-spelt t c =
+    made _ _ c.apply.result c.apply.ensures.shaped (apply_tree c.in-Apply.span c.in-Apply.head c.in-Apply.elements c.in-Apply.is c.deref-in_default-deref.ensures c.as_slice-in_default-deref.ensures)
+    (_, _, refl, inl (c.in_ok-head-in_default-deref.ensures.spelt.becomes, c.in_ok-elements-in_default-deref.ensures.spelt.become))
+
+pub project-returns-clause-spelt : goal.project-returns-clause-spelt
+project-returns-clause-spelt t c =
+    made _ _ c.projected.result c.projected.ensures.shaped (project_tree c.in-Project.span c.in-Project.pair c.in-Project.projections c.in-Project.is c.deref.ensures c.as_slice.ensures)
+    (_, refl, c.in_ok-pair.ensures.spelt.becomes)
+
+pub exp-returns-in-Universe-clause-spelt : goal.exp-returns-in-Universe-clause-spelt
+exp-returns-in-Universe-clause-spelt t c =
+    universe_term c.in-Universe.span _ c.in-Universe.is refl
+
+pub exp-returns-in-Name-clause-spelt : goal.exp-returns-in-Name-clause-spelt
+exp-returns-in-Name-clause-spelt t c =
+    name_term c.in-Name.span c.name.result c.in-Name.is c.name.ensures.shaped
+
+pub exp-returns-in-Brackets-clause-spelt : goal.exp-returns-in-Brackets-clause-spelt
+exp-returns-in-Brackets-clause-spelt t c =
+    brackets_term c.in-Brackets.span c.in-Brackets.components c.brackets.result c.in-Brackets.is c.as_slice.ensures c.brackets.ensures.spelt
+
+pub brackets-returns-clause-spelt : goal.brackets-returns-clause-spelt
+brackets-returns-clause-spelt t c =
+    tuple_spelt c.args.span c.args.components.now _ _ c.tuple.ensures.shaped c.in_ok-exps.ensures.spelt
+
+pub plain-returns-clause-spelt : goal.plain-returns-clause-spelt
+plain-returns-clause-spelt t c =
+    made_applied _ c.apply.result c.apply.ensures.shaped (_, _, refl, inl (c.in_ok-head.ensures.shaped, c.in_ok-elements.ensures.spelt.become))
+
+pub suc-returns-clause-spelt : goal.suc-returns-clause-spelt
+suc-returns-clause-spelt t c =
+    suc_applied _ _ c.apply.result c.apply.ensures.shaped c.in_ok-head.ensures.shaped c.in-Some.ensures c.in_ok-argument.ensures.spelt c.in_ok-elements.ensures.spelt
+
+pub natrec-returns-clause-spelt : goal.natrec-returns-clause-spelt
+natrec-returns-clause-spelt t c =
+    let four = four_arguments c.in-Some.ensures c.in-Some-first_argument.ensures c.in-Some-first_argument-2.ensures c.in-Some-first_argument-3.ensures in
+    natrec_applied _ _ c.apply.result c.apply.ensures.shaped c.in_ok-head.ensures.shaped four c.span_of.ensures
+    c.in_ok-motive.ensures.spelt c.in_ok-base.ensures.spelt c.in_ok-step.ensures.spelt c.in_ok-argument.ensures.spelt c.in_ok-elements.ensures.spelt
+
+pub element-returns-in_ok-exp-in-Argument-clause-spelt : goal.element-returns-in_ok-exp-in-Argument-clause-spelt
+element-returns-in_ok-exp-in-Argument-clause-spelt t c =
+    argument_spelt c.in-Argument.is c.in_ok-exp-in-Argument.ensures.spelt
+
+pub element-returns-in_ok-formula-in-At-clause-spelt : goal.element-returns-in_ok-formula-in-At-clause-spelt
+element-returns-in_ok-formula-in-At-clause-spelt t c =
+    at_spelt c.in-At.span c.in-At.is c.in_ok-formula-in-At.ensures.shaped
+
+pub line-returns-in-len1-clause-spelt : goal.line-returns-in-len1-clause-spelt
+line-returns-in-len1-clause-spelt t c =
+    let one = only_one c.as_slice.result.now c.only-item.result (omega (arith, c.in-len1.len_at_least, c.in-len1.len_below)) c.only-item.is in
+    line_seen _ _ _ c.line.result (brackets_seen c.in-Brackets.span c.in-Brackets.components c.in-Brackets.is c.as_slice.ensures one) c.line.ensures.spelt
+
+pub line-returns-in_ok-exp-in-empty-clause-spelt : goal.line-returns-in_ok-exp-in-empty-clause-spelt
+line-returns-in_ok-exp-in-empty-clause-spelt t c =
+    several_line_spelt c.args.span _ c.in_ok-exp-in-empty.ensures.spelt c.in-Brackets.span c.in-Brackets.components c.in-Brackets.is c.as_slice.ensures (λ e. omega (arith, c.in-empty.len_below))
+
+pub line-returns-in_ok-exp-in-len2-up-clause-spelt : goal.line-returns-in_ok-exp-in-len2-up-clause-spelt
+line-returns-in_ok-exp-in-len2-up-clause-spelt t c =
+    several_line_spelt c.args.span _ c.in_ok-exp-in-len2-up.ensures.spelt c.in-Brackets.span c.in-Brackets.components c.in-Brackets.is c.as_slice.ensures (λ e. omega (arith, c.in-len2-up.len_at_least))
+
+pub line-returns-in-empty-as_slice-clause-spelt : goal.line-returns-in-empty-as_slice-clause-spelt
+line-returns-in-empty-as_slice-clause-spelt t c =
+    let empty = none c.as_slice-in-PathLambda.result.now (omega (arith, c.in-empty-as_slice.len_below)) in
+    line_seen _ _ _ c.line-in-empty-as_slice.result (path_seen c.in-PathLambda.span c.in-PathLambda.names c.in-PathLambda.body c.in-PathLambda.is c.as_slice-in-PathLambda.ensures empty c.deref.ensures)
+    c.line-in-empty-as_slice.ensures.spelt
+
+pub line-returns-in_ok-exp-in_default-clause-spelt : goal.line-returns-in_ok-exp-in_default-clause-spelt
+line-returns-in_ok-exp-in_default-clause-spelt t c =
+    record { becomes = line_wrapped c.args.span c.in_default.not-Brackets c.in_default.not-PathLambda c.in_ok-exp-in_default.ensures.spelt }
+
+pub motive-returns-in-len1-clause-spelt : goal.motive-returns-in-len1-clause-spelt
+motive-returns-in-len1-clause-spelt t c =
+    let one = only_one c.as_slice.result.now c.only-item.result (omega (arith, c.in-len1.len_at_least, c.in-len1.len_below)) c.only-item.is in
+    motive_seen _ _ _ c.motive.result (brackets_seen c.in-Brackets.span c.in-Brackets.components c.in-Brackets.is c.as_slice.ensures one) c.motive.ensures.spelt
+
+pub motive-returns-in_ok-exp-in-empty-clause-spelt : goal.motive-returns-in_ok-exp-in-empty-clause-spelt
+motive-returns-in_ok-exp-in-empty-clause-spelt t c =
+    several_motive_spelt c.args.span _ c.in_ok-exp-in-empty.ensures.spelt c.in-Brackets.span c.in-Brackets.components c.in-Brackets.is c.as_slice.ensures (λ e. omega (arith, c.in-empty.len_below))
+
+pub motive-returns-in_ok-exp-in-len2-up-clause-spelt : goal.motive-returns-in_ok-exp-in-len2-up-clause-spelt
+motive-returns-in_ok-exp-in-len2-up-clause-spelt t c =
+    several_motive_spelt c.args.span _ c.in_ok-exp-in-len2-up.ensures.spelt c.in-Brackets.span c.in-Brackets.components c.in-Brackets.is c.as_slice.ensures (λ e. omega (arith, c.in-len2-up.len_at_least))
+
+pub motive-returns-in-empty-as_slice-clause-spelt : goal.motive-returns-in-empty-as_slice-clause-spelt
+motive-returns-in-empty-as_slice-clause-spelt t c =
+    let empty = none c.as_slice-in-PathLambda.result.now (omega (arith, c.in-empty-as_slice.len_below)) in
+    motive_seen _ _ _ c.motive-in-empty-as_slice.result (path_seen c.in-PathLambda.span c.in-PathLambda.names c.in-PathLambda.body c.in-PathLambda.is c.as_slice-in-PathLambda.ensures empty c.deref.ensures)
+    c.motive-in-empty-as_slice.ensures.spelt
+
+pub motive-returns-in_ok-exp-in_default-clause-spelt : goal.motive-returns-in_ok-exp-in_default-clause-spelt
+motive-returns-in_ok-exp-in_default-clause-spelt t c =
+    record { becomes = motive_wrapped c.args.span c.in_default.not-Brackets c.in_default.not-PathLambda c.in_ok-exp-in_default.ensures.spelt }
+
+pub line-returns-in_ok-body-in-len1-up-2-clause-spelt : goal.line-returns-in_ok-body-in-len1-up-2-clause-spelt
+line-returns-in_ok-body-in-len1-up-2-clause-spelt t c =
+    let names = c.as_slice-in-PathLambda.result.now in
+    let x : Span = get_or names 0 no_span in
+    written_line_spelt c.args.span c.in-PathLambda.span x _ (rest_after 1 names) c.in-PathLambda.body c.in_ok-body-in-len1-up.body c.in_ok-body-in-len1-up-2.body c.in-PathLambda.is
+    (sym c.as_slice-in-PathLambda.ensures ∙ front_any names no_span c.in-len1-up.len_at_least) c.deref-in-len1-up.ensures c.in_ok-body-in-len1-up.ensures.spelt c.in_ok-body-in-len1-up-2.ensures.shaped
+
+pub motive-returns-in_ok-exp-in-len1-up-clause-spelt : goal.motive-returns-in_ok-exp-in-len1-up-clause-spelt
+motive-returns-in_ok-exp-in-len1-up-clause-spelt t c =
+    let first = begins c.as_slice-in-PathLambda.result.now c.in-len1-up.len_at_least in
+    names_motive_spelt c.args.span _ c.in_ok-exp-in-len1-up.ensures.spelt c.in-PathLambda.span first.0 _ _ c.in-PathLambda.body c.in-PathLambda.is (sym c.as_slice-in-PathLambda.ensures ∙ first.1)
+
+pub motive-returns-in-empty-as_slice-2-clause-spelt : goal.motive-returns-in-empty-as_slice-2-clause-spelt
+motive-returns-in-empty-as_slice-2-clause-spelt t c =
+    let empty = none c.as_slice-in-Lambda.result.now (omega (arith, c.in-empty-as_slice-2.len_below)) in
+    bare_motive_spelt _ c.in-Lambda.span c.in-Lambda.teles c.in-Lambda.body c.motive-in-empty-as_slice-2.result c.in-Lambda.is c.as_slice-in-Lambda.ensures empty c.deref-in-empty-as_slice-2.ensures
+    c.motive-in-empty-as_slice-2.ensures.spelt
+
+pub motive-returns-in_ok-exp-in-None-default-clause-spelt : goal.motive-returns-in_ok-exp-in-None-default-clause-spelt
+motive-returns-in_ok-exp-in-None-default-clause-spelt t c =
+    lambda_motive_spelt c.args.span _ c.in_ok-exp-in-None-default.ensures.spelt c.in-Lambda.span c.in-Lambda.teles c.in-Lambda.body c.in-Lambda.is
+
+pub motive-returns-in_ok-exp-in-Some-empty-clause-spelt : goal.motive-returns-in_ok-exp-in-Some-empty-clause-spelt
+motive-returns-in_ok-exp-in-Some-empty-clause-spelt t c =
+    lambda_motive_spelt c.args.span _ c.in_ok-exp-in-Some-empty.ensures.spelt c.in-Lambda.span c.in-Lambda.teles c.in-Lambda.body c.in-Lambda.is
+
+pub motive-returns-in_ok-body-in-Some-len1-up-3-clause-spelt : goal.motive-returns-in_ok-body-in-Some-len1-up-3-clause-spelt
+motive-returns-in_ok-body-in-Some-len1-up-3-clause-spelt t c =
+    let xs = c.as_slice-in-Lambda.result.now in
+    let x = c.first-item.result in
+    let names = c.as_slice-in-len1-up-as_slice.result.now in
+    let v : Span = get_or names 0 no_span in
+    opened_motive_spelt c.args.span c.in-Lambda.span v c.in-Some-len1-up.nat (rest_after 1 names) x (rest_after 1 xs) c.in-Lambda.teles c.in-Lambda.body
+    c.in_ok-body-in-Some-len1-up.body c.in_ok-body-in-Some-len1-up-2.body c.in_ok-body-in-Some-len1-up-3.body c.in-Lambda.is c.as_slice-in-Lambda.ensures
+    (front_one xs x c.in-len1-up-as_slice.len_at_least c.first-item.is) (sym c.as_slice-in-len1-up-as_slice.ensures ∙ front_any names no_span c.in-Some-len1-up.len_at_least)
+    c.deref-in-Some-len1-up.ensures (c.built_in_nat-nat.ensures.named c.in-Some-len1-up.nat c.in-Some-len1-up.is-0) c.in_ok-binders-in-Some-len1-up.ensures.spelt
+    c.in_ok-body-in-Some-len1-up.ensures.spelt c.in_ok-body-in-Some-len1-up-2.ensures.shaped c.in_ok-body-in-Some-len1-up-3.ensures.shaped
+
+pub no_pair-returns-clause-spelt : goal.no_pair-returns-clause-spelt
+no_pair-returns-clause-spelt t c =
+    (c.in_ok-ty.ensures.spelt, refl)
+
+pub pair-returns-in_default-clause-spelt : goal.pair-returns-in_default-clause-spelt
+pair-returns-in_default-clause-spelt t c =
+    pair_refused _ _ c.no_pair-in_default.result (λ C h. pair_wrapped c.args.span c.in_default.not-Brackets c.in_default.not-PathLambda h) c.no_pair-in_default.ensures.spelt
+
+pub pair-returns-in-empty-clause-spelt : goal.pair-returns-in-empty-clause-spelt
+pair-returns-in-empty-clause-spelt t c =
+    let empty = none c.as_slice.result.now (omega (arith, c.in-empty.len_below)) in
+    pair_refused _ _ c.no_pair.result (λ C h. none_pair_spelt c.args.span C h c.in-Brackets.inner c.in-Brackets.components c.in-Brackets.is c.as_slice.ensures empty) c.no_pair.ensures.spelt
+
+pub pair-returns-in-empty-rest-clause-spelt : goal.pair-returns-in-empty-rest-clause-spelt
+pair-returns-in-empty-rest-clause-spelt t c =
+    let xs = c.as_slice.result.now in
+    let front = front_one xs c.first-item.result c.in-len1-up.len_at_least c.first-item.is in
+    let empty = none (rest_after 1 xs) (omega (arith, c.in-empty-rest.len_below)) in
+    pair_seen _ _ _ c.pair.result (brackets_seen c.in-Brackets.inner c.in-Brackets.components c.in-Brackets.is c.as_slice.ensures (front ∙ ap (λ ys. c.first-item.result ∷ ys) empty)) c.pair.ensures.spelt
+
+pub pair-returns-in_ok-exps-in-len1-up-rest-clause-spelt : goal.pair-returns-in_ok-exps-in-len1-up-rest-clause-spelt
+pair-returns-in_ok-exps-in-len1-up-rest-clause-spelt t c =
+    let xs = c.as_slice.result.now in
+    let x = c.first-item.result in
+    let front = front_one xs x c.in-len1-up.len_at_least c.first-item.is in
+    let second = begins (rest_after 1 xs) c.in-len1-up-rest.len_at_least in
+    several_pair_spelt c.args.span c.in-Brackets.inner c.in-Brackets.components c.in_ok-ty-in-len1-up-rest.ty c.tuple-equivalence.result c.in-Brackets.is c.as_slice.ensures front second.1
+    c.in_ok-ty-in-len1-up-rest.ensures.spelt c.in_ok-exps-in-len1-up-rest.ensures.spelt c.tuple-equivalence.ensures.shaped
+
+pub pair-returns-in-empty-as_slice-clause-spelt : goal.pair-returns-in-empty-as_slice-clause-spelt
+pair-returns-in-empty-as_slice-clause-spelt t c =
+    let empty = none c.as_slice-in-PathLambda.result.now (omega (arith, c.in-empty-as_slice.len_below)) in
+    pair_seen _ _ _ c.pair-in-empty-as_slice.result (path_seen c.in-PathLambda.span c.in-PathLambda.names c.in-PathLambda.body c.in-PathLambda.is c.as_slice-in-PathLambda.ensures empty c.deref.ensures)
+    c.pair-in-empty-as_slice.ensures.spelt
+
+pub pair-returns-in-len1-up-as_slice-clause-spelt : goal.pair-returns-in-len1-up-as_slice-clause-spelt
+pair-returns-in-len1-up-as_slice-clause-spelt t c =
+    let first = begins c.as_slice-in-PathLambda.result.now c.in-len1-up-as_slice.len_at_least in
+    pair_refused _ _ c.no_pair-in-len1-up-as_slice.result (λ C h. names_pair_spelt c.args.span C h c.in-PathLambda.span first.0 _ _ c.in-PathLambda.body c.in-PathLambda.is (sym c.as_slice-in-PathLambda.ensures ∙ first.1))
+    c.no_pair-in-len1-up-as_slice.ensures.spelt
+
+pub def-returns-clause-spelt : goal.def-returns-clause-spelt
+def-returns-clause-spelt t c =
+    def_spelt c.args.def.now c.in_ok-body-2.body c.new.result c.new.ensures.shaped c.in_ok-body-2.ensures.shaped c.span_of.ensures c.as_slice.ensures c.as_slice-2.ensures
+    c.in_ok-binders.ensures.spelt c.in_ok-ty.ensures.spelt c.in_ok-locals.ensures.spelt c.in_ok-body.ensures.spelt
