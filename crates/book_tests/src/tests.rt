@@ -7,10 +7,11 @@ ghost use Rattle.recipe_runner.specs.Running.{MayRun, most_made_by};
 ghost use Rattle.book_tests.specs.Stated.{earlier};
 
 use crate::{
-    SUCCESSOR, SUCCESSOR_GIVES, TWO, TWO_GIVES, given, judged, nodes_of, successor_is_derived,
-    two_is_derived,
+    SUCCESSOR, SUCCESSOR_GIVES, TWO, TWO_GIVES, doubled, given, judged, nodes_of,
+    successor_is_derived, two_is_derived,
 };
 use book::Book;
+use book_writer::write;
 use recipes::Row;
 use replay::Verdict;
 use std::alloc::{AllocError, Global};
@@ -42,5 +43,35 @@ fn the_successor_is_a_function_with_a_value(rt: HostRuntime) -> Result<(), Fail>
     successor_is_derived();
     let found = verdict(rt.alloc(), SUCCESSOR, SUCCESSOR_GIVES)?;
     assert!(rt; matches!(found, Verdict::Yes { roots: 2, .. }));
+    Ok(())
+}
+
+/// Three rows for each time: the tree, the substitution and the node. The judge opens each tree
+/// anew, so it is given a shorter one.
+#[test]
+fn a_chain_of_substitutions_is_as_long_as_its_file(rt: HostRuntime) -> Result<(), Fail> {
+    let mut book = Book::new(rt.alloc())?;
+    let node = doubled(&mut book, 1000)?;
+    let mut bytes = Vec::new(rt.alloc());
+    assert_eq!(rt; write(&book, rt.alloc(), &[node], &mut bytes)?, 3015);
+    let mut book = Book::new(rt.alloc())?;
+    let node = doubled(&mut book, 100)?;
+    let found = judged(rt.alloc(), &book, &[node])?;
+    assert!(rt; matches!(found, Verdict::Yes { rows: 315, .. }));
+    Ok(())
+}
+
+/// Told by making each allocation fail in turn: what comes after the room is made does not.
+#[test]
+fn calls_within_the_spare_are_not_out_of_memory(rt: HostRuntime) -> Result<(), Fail> {
+    two_is_derived();
+    successor_is_derived();
+    let Ok(mut book) = Book::new(rt.alloc()) else {
+        return Ok(());
+    };
+    if book.reserve(512).is_ok() {
+        assert!(rt; given(&mut book, TWO, TWO_GIVES).is_ok());
+        assert!(rt; given(&mut book, SUCCESSOR, SUCCESSOR_GIVES).is_ok());
+    }
     Ok(())
 }

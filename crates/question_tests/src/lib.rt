@@ -1,0 +1,7 @@
+//! Tests of what a book says of formulas and faces.
+//!
+//! They stand in a crate of their own, since a crate with tests is proved twice.
+#![tactic(auto)]
+
+#[cfg(test)]
+mod questions;
