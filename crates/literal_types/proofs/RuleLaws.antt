@@ -244,11 +244,7 @@ module _ {b : Contents} {parts premises : List ℕ} {M : Context} {d : Subst} {K
         A,
         a,
         said_at (book_concludes b) premises u.rule.wants 0 j (Sb M e G) u.wants first (ap (λ xs. slice_get xs 0) w),
-        record {
-          judgement = Tm M a (apply A e);
-          says = said_at (book_concludes b) premises u.rule.wants 2 k (Tm M a (apply A e)) u.wants third (ap (λ xs. slice_get xs 2) w);
-          is_of = (refl, refl);
-        },
+        said_at (book_concludes b) premises u.rule.wants 2 k (Tm M a (apply A e)) u.wants third (ap (λ xs. slice_get xs 2) w),
         s,
         t,
       )

@@ -1,11 +1,13 @@
 -- Trees under substitutions that wait.
-use Rattle.std.proofs.Common.{◌≡◌, ◌+◌, ◌-◌, ◌<◌, ◌≤◌, ℕ, zero, suc, List, [], ◌∷◌, ◌++◌, length, reverse, refl, sym, ◌∙◌, ap, subst, arith, true, false}
+use Rattle.std.proofs.Common.{◌≡◌, ◌+◌, ◌-◌, ◌<◌, ◌≤◌, ℕ, zero, suc, List, [], ◌∷◌, ◌++◌, length, reverse, refl, sym, ◌∙◌, ap, subst, arith, true, false, Some}
 use Rattle.std.proofs.lemmas.List.{reverse-append}
 use Rattle.trees.specs.Trees.{Tree, Subst, Var, Make, apply, push}
 use Rattle.trees.specs.Judgements.{Context, Nil, WithVar, WithName, WithFace, trees}
-use Rattle.trees.specs.Language.{Sb, Ty}
+use Rattle.trees.specs.Language.{Sb, Tm, Ty}
+use Rattle.trees.specs.Things.{ATree}
 use Rattle.substitution.proofs.ThenLaws.{apply-then, apply-id}
-use Rattle.rules.specs.Table.{pathp, pi, sig}
+use Rattle.substitution.proofs.BinderLaws.{apply-weaken}
+use Rattle.rules.specs.Table.{pathp, pi, sig, weakened}
 use Rattle.shifts.specs.Spans.{size_of}
 use Rattle.book.specs.Contents.{Contents}
 use Rattle.book.specs.declared.kernel.NodeId.{NodeId}
@@ -17,10 +19,10 @@ use Rattle.literal_types.specs.declared.substitutions.Substitution.TheVariants a
 use Rattle.literal_types.specs.declared.waiting.Waiting.{Waiting}
 use Rattle.literal_types.specs.declared.waiting.Waiting.TheVariants as waiting
 use Rattle.literal_types.specs.Literal.{IsNoForm}
-use Rattle.literal_types.specs.Ways.{has_other, is_variable}
+use Rattle.literal_types.specs.Ways.{HasVariable, has_other}
 use Rattle.literal_types.specs.Openings.{Types}
-use Rattle.literal_types.specs.Substitutions.{IsEntry, past_entry, Unfolds}
-use Rattle.literal_types.specs.Waits.{Waits, Stands, IsEntered, waiting_weight}
+use Rattle.literal_types.specs.Substitutions.{IsEntry, IsFrom, past_entry, Unfolds}
+use Rattle.literal_types.specs.Waits.{IsEntered, Stands, StandsTyped, Waits, waiting_weight}
 
 -- lists that are pushed on and popped
 
@@ -70,9 +72,68 @@ other_waits b [] H T K A h w = other_is_no_form T (subst (λ t. has_other t ≡ 
 other_waits b (waiting.Sub node ∷ ws) H T K A h w = let (M, d, says, rest) = w in other_waits b ws H T M (apply A d) (other_under A d h) rest
 other_waits b (waiting.Past below e ∷ ws) H T K A h w = let (M, is, from, rest) = w in other_waits b ws H T M (past_entry e A) (other_past e A h) rest
 
+-- what a node says is one thing
+
+pub same_sub : (b : Contents) (node : NodeId) (M N : Context) (d e : Subst) (K : Context) → Says b node (Sb M d K) → Says b node (Sb N e K) → (M ≡ N) × (d ≡ e)
+same_sub b node M N d e K said again =
+    let one : Some (Sb M d K) ≡ Some (Sb N e K) = sym said ∙ again in
+    (cc, cc)
+
+same_entry : (b : Contents) (x : Entry) (K M N : Context) → IsEntry b x K M → IsEntry b x K N → M ≡ N
+same_entry b (entry.Variable ty) K M N is also =
+    let one : Some (Ty K is.0) ≡ Some (Ty K also.0) = sym is.1 ∙ also.1 in
+    let same : is.0 ≡ also.0 = cc in
+    is.2 ∙ ap (WithVar K) same ∙ sym also.2
+same_entry b entry.Name K M N is also = is ∙ sym also
+same_entry b (entry.Face row) K M N is also =
+    let one : Some (ATree is.0) ≡ Some (ATree also.0) = sym is.1 ∙ also.1 in
+    let same : is.0 ≡ also.0 = cc in
+    is.3 ∙ ap (WithFace K) same ∙ sym also.3
+
+-- what waits for one tree waits for all
+pub waits_all : (b : Contents) (ws : List Waiting) (H : Context) (T : Tree) (K : Context) (A : Tree) → Waits b ws H T K A → (B : Tree) → (S : Tree) × Waits b ws H S K B
+waits_all b [] H T K A w B = (B, (w.0, refl))
+waits_all b (waiting.Sub node ∷ ws) H T K A w B =
+    let (M, d, says, rest) = w in
+    let (S, more) = waits_all b ws H T M (apply A d) rest (apply B d) in
+    (S, (M, d, says, more))
+waits_all b (waiting.Past below x ∷ ws) H T K A w B =
+    let (M, is, from, rest) = w in
+    let (S, more) = waits_all b ws H T M (past_entry x A) rest (past_entry x B) in
+    (S, (M, is, from, more))
+
+-- and makes one tree of it
+pub waits_same : (b : Contents) (ws : List Waiting) (H : Context) (T S : Tree) (K : Context) (A : Tree) → Waits b ws H T K A → Waits b ws H S K A → T ≡ S
+waits_same b [] H T S K A w v = w.1 ∙ sym v.1
+waits_same b (waiting.Sub node ∷ ws) H T S K A w v =
+    let (M, d, says, rest) = w in
+    let (N, e, also, more) = v in
+    let same = same_sub b node N M e d K also says in
+    waits_same b ws H T S M (apply A d) rest (subst (λ L. Waits b ws H S L (apply A d)) same.0 (subst (λ f. Waits b ws H S N (apply A f)) same.1 more))
+waits_same b (waiting.Past below x ∷ ws) H T S K A w v =
+    let (M, is, from, rest) = w in
+    let (N, also, too, more) = v in
+    waits_same b ws H T S M (past_entry x A) rest (subst (λ L. Waits b ws H S L (past_entry x A)) (same_entry b x K N M also is) more)
+
 -- what the innermost index becomes
 
-module _ {b : Contents} {s : NodeId} {i : ℕ} {ws : List Waiting} {H : Context} {T : Tree} (at : IsEntered b i (waiting.Sub s ∷ ws) H T) where
+-- the type of an innermost variable, and of one further out
+nearest : (G : Context) (A B : Tree) (K : Context) (i : ℕ) → K ≡ WithVar G A → i ≡ 0 → HasVariable K i B → B ≡ weakened trees A
+nearest G A B K i k none has = subst (λ n. HasVariable (WithVar G A) n B) none (subst (λ L. HasVariable L i B) k has)
+
+further : (G : Context) (A B : Tree) (K : Context) (i : ℕ) → K ≡ WithVar G A → i ≡ suc (i - 1) → HasVariable K i B → (C : Tree) × HasVariable G (i - 1) C × (B ≡ weakened trees C)
+further G A B K i k more has = subst (λ n. HasVariable (WithVar G A) n B) more (subst (λ L. HasVariable L i B) k has)
+
+past_name : (G : Context) (B : Tree) (K : Context) (i : ℕ) → K ≡ WithName G → HasVariable K i B → (i ≡ suc (i - 1)) × (C : Tree) × HasVariable G (i - 1) C × (B ≡ weakened trees C)
+past_name G B K i k has = from i (subst (λ L. HasVariable L i B) k has)
+  where
+    from : (n : ℕ) → HasVariable (WithName G) n B → (n ≡ suc (n - 1)) × (C : Tree) × HasVariable G (n - 1) C × (B ≡ weakened trees C)
+    from zero h = absurd h
+    from (suc n) h =
+        let less : suc n - 1 ≡ n = omega arith in
+        (omega arith, h.0, subst (λ k. HasVariable G k h.0) (sym less) h.1, h.2)
+
+module _ {b : Contents} {s : NodeId} {i : ℕ} {ws : List Waiting} {H : Context} {T S : Tree} (at : IsEntered b i (waiting.Sub s ∷ ws) H T S) where
   abbrev From : Context
   From = at.waits.0
 
@@ -82,126 +143,155 @@ module _ {b : Contents} {s : NodeId} {i : ℕ} {ws : List Waiting} {H : Context}
   moved : (A : Tree) → apply (Var i) By ≡ A → Waits b ws H T From A
   moved A e = subst (Waits b ws H T From) e at.waits.3
 
-  pub enters_identity : (ctx : NodeId) → Unfolds b (sub.Identity ctx) From By at.home → IsEntered b i ws H T
+  moved_type : (A : Tree) → apply at.type By ≡ A → Waits b ws H S From A
+  moved_type A e =
+      let (N, f, says, rest) = at.type_waits in
+      let same = same_sub b s N From f By at.home says at.waits.2 in
+      subst (Waits b ws H S From) e (subst (λ L. Waits b ws H S L (apply at.type By)) same.0 (subst (λ g. Waits b ws H S N (apply at.type g)) same.1 rest))
+
+  pub enters_identity : (ctx : NodeId) → Unfolds b (sub.Identity ctx) From By at.home → IsEntered b i ws H T S
   enters_identity ctx u = record {
     home = From;
-    variable = subst (λ K. is_variable K i ≡ true) (sym u.0) at.variable;
+    type = at.type;
+    variable = subst (λ K. HasVariable K i at.type) (sym u.0) at.variable;
     waits = moved (Var i) (ap (apply (Var i)) u.1 ∙ apply-id (Var i));
+    type_waits = moved_type at.type (ap (apply at.type) u.1 ∙ apply-id at.type);
   }
 
-  pub enters_composite : (first second : NodeId) → Unfolds b (sub.Composite first second) From By at.home → IsEntered b i (waiting.Sub second ∷ waiting.Sub first ∷ ws) H T
+  pub enters_composite : (first second : NodeId) → Unfolds b (sub.Composite first second) From By at.home → IsEntered b i (waiting.Sub second ∷ waiting.Sub first ∷ ws) H T S
   enters_composite first second u =
       let (L, e, f, inner, outer, is) = u in
       record {
         home = at.home;
+        type = at.type;
         variable = at.variable;
         waits = (L, f, outer, (From, e, inner, moved (apply (apply (Var i) f) e) (ap (apply (Var i)) is ∙ apply-then (Var i) f e)));
+        type_waits = (L, f, outer, (From, e, inner, moved_type (apply (apply at.type f) e) (ap (apply at.type) is ∙ apply-then at.type f e)));
       }
 
-  pub enters_past : (below : NodeId) (x : Entry) → Unfolds b (sub.Past below x) From By at.home → IsEntered b i (waiting.Sub below ∷ waiting.Past below x ∷ ws) H T
+  pub enters_past : (below : NodeId) (x : Entry) → Unfolds b (sub.Past below x) From By at.home → IsEntered b i (waiting.Sub below ∷ waiting.Past below x ∷ ws) H T S
   enters_past below x u =
       let (L, e, says, is, under) = u in
+      let from : IsFrom b below L = record { sub = e; target = at.home; says = says } in
       record {
         home = at.home;
+        type = at.type;
         variable = at.variable;
-        waits = (L, e, says, (From, is, record { sub = e; target = at.home; says = says }, moved (past_entry x (apply (Var i) e)) (under (Var i))));
+        waits = (L, e, says, (From, is, from, moved (past_entry x (apply (Var i) e)) (under (Var i))));
+        type_waits = (L, e, says, (From, is, from, moved_type (past_entry x (apply at.type e)) (under at.type)));
       }
 
-  pub enters_term : (below term : NodeId) → i ≡ 0 → Unfolds b (sub.Pushed below term) From By at.home → Stands b term ws H T
+  pub enters_term : (below term : NodeId) → i ≡ 0 → Unfolds b (sub.Pushed below term) From By at.home → StandsTyped b term ws H T S
   enters_term below term zero_is u =
-      let (G, e, A, a, says, types, is, home) = u in
+      let (G, e, A, a, says, typed, is, home) = u in
+      let type_is : at.type ≡ weakened trees A = nearest G A at.type at.home i home zero_is at.variable in
       record {
         home = From;
         tree = a;
-        types = types;
+        type = apply A e;
+        says = typed;
         waits = moved a (ap (apply (Var i)) is ∙ ap (λ k. apply (Var k) (push e a)) zero_is);
+        type_waits = moved_type (apply A e) (ap (apply at.type) is ∙ ap (λ t. apply t (push e a)) type_is ∙ apply-weaken A a e);
       }
 
-  pub enters_pushed : (below term : NodeId) → (i ≡ 0 → ⊥) → Unfolds b (sub.Pushed below term) From By at.home → IsEntered b (i - 1) (waiting.Sub below ∷ ws) H T
+  pub enters_pushed : (below term : NodeId) → (i ≡ 0 → ⊥) → Unfolds b (sub.Pushed below term) From By at.home → IsEntered b (i - 1) (waiting.Sub below ∷ ws) H T S
   enters_pushed below term some u =
-      let (G, e, A, a, says, types, is, home) = u in
+      let (G, e, A, a, says, typed, is, home) = u in
       let more : i ≡ suc (i - 1) = omega (arith, some) in
+      let (C, has, type_is) = further G A at.type at.home i home more at.variable in
       record {
         home = G;
-        variable = subst (λ k. is_variable (WithVar G A) k ≡ true) more (subst (λ K. is_variable K i ≡ true) home at.variable);
+        type = C;
+        variable = has;
         waits = (From, e, says, moved (apply (Var (i - 1)) e) (ap (apply (Var i)) is ∙ ap (λ k. apply (Var k) (push e a)) more));
+        type_waits = (From, e, says, moved_type (apply C e) (ap (apply at.type) is ∙ ap (λ t. apply t (push e a)) type_is ∙ apply-weaken C a e));
       }
 
-  pub enters_formula : (below : NodeId) → Unfolds b (sub.Formula below) From By at.home → IsEntered b (i - 1) (waiting.Sub below ∷ ws) H T
+  pub enters_formula : (below : NodeId) → Unfolds b (sub.Formula below) From By at.home → IsEntered b (i - 1) (waiting.Sub below ∷ ws) H T S
   enters_formula below u =
       let (G, e, r, says, is, home) = u in
-      let variable : is_variable (WithName G) i ≡ true = subst (λ K. is_variable K i ≡ true) home at.variable in
-      let more : i ≡ suc (i - 1) = some_index G i variable in
+      let (more, C, has, type_is) = past_name G at.type at.home i home at.variable in
       record {
         home = G;
-        variable = subst (λ k. is_variable (WithName G) k ≡ true) more variable;
+        type = C;
+        variable = has;
         waits = (From, e, says, moved (apply (Var (i - 1)) e) (ap (apply (Var i)) is ∙ ap (λ k. apply (Var k) (push e r)) more));
+        type_waits = (From, e, says, moved_type (apply C e) (ap (apply at.type) is ∙ ap (λ t. apply t (push e r)) type_is ∙ apply-weaken C r e));
       }
-    where
-      some_index : (G : Context) (k : ℕ) → is_variable (WithName G) k ≡ true → k ≡ suc (k - 1)
-      some_index G zero v = absurd (cc v)
-      some_index G (suc k) v = omega arith
 
-  pub enters_on_face : (below : NodeId) → Unfolds b (sub.OnFace below) From By at.home → IsEntered b i (waiting.Sub below ∷ ws) H T
+  pub enters_on_face : (below : NodeId) → Unfolds b (sub.OnFace below) From By at.home → IsEntered b i (waiting.Sub below ∷ ws) H T S
   enters_on_face below u =
       let (G, p, says, home) = u in
       record {
         home = G;
-        variable = subst (λ K. is_variable K i ≡ true) home at.variable;
+        type = at.type;
+        variable = subst (λ K. HasVariable K i at.type) home at.variable;
         waits = (From, By, says, at.waits.3);
+        type_waits = (From, By, says, moved_type (apply at.type By) refl);
       }
 
 -- the index of a name is no variable
-pub named_index : (G : Context) (i : ℕ) (K : Context) → K ≡ WithName G → is_variable K i ≡ true → 1 ≤ i
-named_index G zero K e v = absurd (cc (sym v ∙ ap (λ x. is_variable x 0) e))
-named_index G (suc i) K e v = omega arith
+pub named_index : (G : Context) (i : ℕ) (K : Context) (B : Tree) → K ≡ WithName G → HasVariable K i B → 1 ≤ i
+named_index G i K B e v = let more = (past_name G B K i e v).0 in omega (arith, more)
 
 -- an index past an entry
 
 weakened_index : (i j : ℕ) → Var j ≡ Var (i + 1) → j ≡ suc i
 weakened_index i j e = let same : j ≡ i + 1 = cc in omega (arith, same)
 
-variable_past : (b : Contents) (x : Entry) (K M : Context) (i j : ℕ) → IsEntry b x K M → Var j ≡ past_entry x (Var i) → is_variable K i ≡ true → is_variable M j ≡ true
-variable_past b (entry.Variable ty) K M i j is e v =
+variable_past : (b : Contents) (x : Entry) (K M : Context) (i j : ℕ) (B : Tree) → IsEntry b x K M → Var j ≡ past_entry x (Var i) → HasVariable K i B → HasVariable M j (past_entry x B)
+variable_past b (entry.Variable ty) K M i j B is e v =
     let (A, says, m) = is in
-    subst (λ L. is_variable L j ≡ true) (sym m) (subst (λ k. is_variable (WithVar K A) k ≡ true) (sym (weakened_index i j e)) v)
-variable_past b entry.Name K M i j is e v =
-    subst (λ L. is_variable L j ≡ true) (sym is) (subst (λ k. is_variable (WithName K) k ≡ true) (sym (weakened_index i j e)) v)
-variable_past b (entry.Face row) K M i j is e v =
+    subst (λ L. HasVariable L j (weakened trees B)) (sym m) (subst (λ k. HasVariable (WithVar K A) k (weakened trees B)) (sym (weakened_index i j e)) (B, v, refl))
+variable_past b entry.Name K M i j B is e v =
+    subst (λ L. HasVariable L j (weakened trees B)) (sym is) (subst (λ k. HasVariable (WithName K) k (weakened trees B)) (sym (weakened_index i j e)) (B, v, refl))
+variable_past b (entry.Face row) K M i j B is e v =
     let (p, means, face, m) = is in
     let same : j ≡ i = cc in
-    subst (λ L. is_variable L j ≡ true) (sym m) (subst (λ k. is_variable (WithFace K p) k ≡ true) (sym same) v)
+    subst (λ L. HasVariable L j B) (sym m) (subst (λ k. HasVariable (WithFace K p) k B) (sym same) v)
 
-pub past_waits : {b : Contents} {below : NodeId} {x : Entry} {i : ℕ} {ws : List Waiting} {H : Context} {T : Tree} (j : ℕ) → Var j ≡ past_entry x (Var i) → IsEntered b i (waiting.Past below x ∷ ws) H T → IsEntered b j ws H T
-past_waits {b} {below} {x} {i} {ws} {H} {T} j e at =
+pub past_waits : {b : Contents} {below : NodeId} {x : Entry} {i : ℕ} {ws : List Waiting} {H : Context} {T S : Tree} (j : ℕ) → Var j ≡ past_entry x (Var i) → IsEntered b i (waiting.Past below x ∷ ws) H T S → IsEntered b j ws H T S
+past_waits {b} {below} {x} {i} {ws} {H} {T} {S} j e at =
     let (M, is, from, rest) = at.waits in
+    let (N, also, too, more) = at.type_waits in
     record {
       home = M;
-      variable = variable_past b x at.home M i j is e at.variable;
+      type = past_entry x at.type;
+      variable = variable_past b x at.home M i j at.type is e at.variable;
       waits = subst (Waits b ws H T M) (sym e) rest;
+      type_waits = subst (λ L. Waits b ws H S L (past_entry x at.type)) (same_entry b x at.home N M also is) more;
     }
 
 -- an index is within its context
-pub variable_within : (K : Context) (i : ℕ) → is_variable K i ≡ true → i < size_of K
-variable_within Nil i v = absurd (cc v)
-variable_within (WithVar G A) zero v = omega arith
-variable_within (WithVar G A) (suc i) v = let w = variable_within G i v in omega (arith, w)
-variable_within (WithName G) zero v = absurd (cc v)
-variable_within (WithName G) (suc i) v = let w = variable_within G i v in omega (arith, w)
-variable_within (WithFace G p) i v = variable_within G i v
+pub variable_within : (K : Context) (i : ℕ) (B : Tree) → HasVariable K i B → i < size_of K
+variable_within Nil i B v = absurd v
+variable_within (WithVar G A) zero B v = omega arith
+variable_within (WithVar G A) (suc i) B v = let w = variable_within G i v.0 v.1 in omega (arith, w)
+variable_within (WithName G) zero B v = absurd v
+variable_within (WithName G) (suc i) B v = let w = variable_within G i v.0 v.1 in omega (arith, w)
+variable_within (WithFace G p) i B v = variable_within G i B v
 
 -- nothing waits any more
-pub none_waits : {b : Contents} {i : ℕ} {H : Context} {T : Tree} → IsEntered b i [] H T → IsNoForm T
-none_waits {i = i} {T = T} at = variable_is_no_form T i at.waits.1
+pub none_waits : {b : Contents} {i : ℕ} {H : Context} {T S : Tree} → IsEntered b i [] H T S → (k : ℕ) × (T ≡ Var k)
+none_waits {i = i} at = (i, at.waits.1)
 
 -- the variable that is looked up, where so many are left of what waited at the beginning
 pub record Looking (b : Contents) (begin : List Waiting) (i : ℕ) (ws : List Waiting) : Type 0 where
-  pub stands : (H : Context) (T : Tree) → IsEntered b 0 begin H T → IsEntered b i ws H T
+  pub stands : (H : Context) (T S : Tree) → IsEntered b 0 begin H T S → IsEntered b i ws H T S
   pub less : waiting_weight ws ≤ waiting_weight begin
 
 -- the node whose rule is followed, where so many are left of what waited at the beginning
 pub record Finding (b : Contents) (ty : NodeId) (begin : List Waiting) (node : NodeId) (ws : List Waiting) : Type 0 where
   pub stands : (H : Context) (T : Tree) → Stands b ty begin H T → Stands b node ws H T
+
+-- whatever its type
+pub untyped : {b : Contents} {node : NodeId} {ws : List Waiting} {H : Context} {T S : Tree} → StandsTyped b node ws H T S → Stands b node ws H T
+untyped s = record {
+  home = s.home;
+  tree = s.tree;
+  types = record { judgement = Tm s.home s.tree s.type; says = s.says; is_of = (refl, refl) };
+  waits = s.waits;
+}
 
 -- what the rule of a node says of what stands
 
@@ -214,8 +304,11 @@ module _ {b : Contents} {node : NodeId} {ws : List Waiting} {H : Context} {T : T
       let (d, G, B, says, types, is) = o in
       record { home = G; tree = B; types = types; waits = (s.home, d, says, subst (Waits b ws H T s.home) is s.waits) }
 
-  pub stands_variable : (s.tree ≡ Var 0) × (is_variable s.home 0 ≡ true) → IsEntered b 0 ws H T
-  stands_variable o = record { home = s.home; variable = o.1; waits = subst (Waits b ws H T s.home) o.0 s.waits }
+  pub stands_variable : (B : Tree) × (s.tree ≡ Var 0) × HasVariable s.home 0 B → (S : Tree) × IsEntered b 0 ws H T S
+  stands_variable o =
+      let (B, is, has) = o in
+      let (S, of_type) = waits_all b ws H T s.home s.tree s.waits B in
+      (S, record { home = s.home; type = B; variable = has; waits = subst (Waits b ws H T s.home) is s.waits; type_waits = of_type })
 
   pub stands_other : has_other s.tree ≡ true → IsNoForm T
   stands_other o = other_waits b ws H T s.home s.tree o s.waits

@@ -24,6 +24,8 @@ use Rattle.theory.specs.declared.rule.CompRule.TheVariants.{Comp}
 use Rattle.theory.specs.declared.rule.GlueRule.{GlueRule}
 use Rattle.theory.specs.declared.rule.GlueRule.TheVariants.{GlueTy}
 use Rattle.trees.specs.Language.{Ty, Tm}
+use Rattle.trees.specs.Judgements.{trees}
+use Rattle.rules.specs.Table.{weakened}
 use Rattle.rules.specs.Rules.{AtAll}
 use Rattle.literal_types.specs.declared.forms.Size.TheVariants as size
 use Rattle.literal_types.specs.declared.forms.Former.TheVariants as former
@@ -39,7 +41,7 @@ pub term_instance : AtAll (Instances TmSub) (λ xs r. IsWay way.Instance r)
 term_instance = λ H d G a A. (d, G, a, Tm G a A, [], refl, (refl, refl), refl)
 
 pub variable : AtAll (Instances TmVar) (λ xs r. IsWay way.Variable r)
-variable = λ G A. (refl, refl)
+variable = λ G A. (weakened trees A, refl, refl)
 
 pub converted : AtAll (Equality TmConv) (λ xs r. IsWay way.Same r)
 converted = λ G a A B. (Tm G a A, _, refl, (refl, refl))

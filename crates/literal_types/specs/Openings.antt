@@ -9,7 +9,7 @@ use Rattle.typed_nodes.specs.Typed.{Says}
 use Rattle.literal_types.specs.declared.openings.Opening.{Opening}
 use Rattle.literal_types.specs.declared.openings.Opening.TheVariants as opening
 use Rattle.literal_types.specs.Formed.{IsFormed}
-use Rattle.literal_types.specs.Ways.{IsOf, has_other, is_variable}
+use Rattle.literal_types.specs.Ways.{HasVariable, IsOf, has_other}
 
 -- the node types that tree in that context, as a type or a term
 pub record Types (b : Contents) (node : NodeId) (K : Context) (A : Tree) : Type 0 where
@@ -23,7 +23,7 @@ Opens b (opening.Same node) K A = Types b node K A
 Opens b (opening.Instance sub node) K A =
     (d : Subst) × (G : Context) × (B : Tree) × Says b sub (Sb K d G) × Types b node G B
     × (A ≡ apply B d)
-Opens b opening.Variable K A = (A ≡ Var zero) × (is_variable K zero ≡ true)
+Opens b opening.Variable K A = (B : Tree) × (A ≡ Var zero) × HasVariable K zero B
 Opens b (opening.Formed form) K A = IsFormed b form K A
 Opens b opening.Other K A = has_other A ≡ true
 

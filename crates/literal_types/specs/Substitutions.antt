@@ -2,7 +2,7 @@
 use Rattle.std.specs.Prelude.{◌≡◌, ◌+◌, ℕ, zero, List, [], ◌∷◌, Some, IsTrue}
 use Rattle.trees.specs.Trees.{Tree, Subst, id, then, push, apply}
 use Rattle.trees.specs.Judgements.{Context, WithVar, WithName, WithFace, trees}
-use Rattle.trees.specs.Language.{Ctx, Ty, Sb}
+use Rattle.trees.specs.Language.{Ctx, Ty, Tm, Sb}
 use Rattle.trees.specs.Things.{ATree}
 use Rattle.conditions.specs.Sides.{is_face}
 use Rattle.rules.specs.Table.{weakened}
@@ -16,7 +16,7 @@ use Rattle.literal_types.specs.declared.sources.Base.{Base}
 use Rattle.literal_types.specs.declared.sources.Base.TheVariants as base
 use Rattle.literal_types.specs.declared.substitutions.Substitution.{Substitution}
 use Rattle.literal_types.specs.declared.substitutions.Substitution.TheVariants as sub
-use Rattle.literal_types.specs.Openings.{Types, weight}
+use Rattle.literal_types.specs.Openings.{weight}
 
 -- M is K with that entry
 abbrev pub IsEntry : Contents → Entry → Context → Context → Type 0
@@ -58,8 +58,8 @@ Unfolds b (sub.Past below entry) M d K =
     (L : Context) × (e : Subst) × Says b below (Sb L e K) × IsEntry b entry L M
     × ((A : Tree) → apply A d ≡ past_entry entry (apply A e))
 Unfolds b (sub.Pushed below term) M d K =
-    (G : Context) × (e : Subst) × (A a : Tree) × Says b below (Sb M e G) × Types b term M a
-    × (d ≡ push e a) × (K ≡ WithVar G A)
+    (G : Context) × (e : Subst) × (A a : Tree) × Says b below (Sb M e G)
+    × Says b term (Tm M a (apply A e)) × (d ≡ push e a) × (K ≡ WithVar G A)
 Unfolds b (sub.Formula below) M d K =
     (G : Context) × (e : Subst) × (r : Tree) × Says b below (Sb M e G) × (d ≡ push e r)
     × (K ≡ WithName G)

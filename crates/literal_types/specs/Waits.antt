@@ -1,8 +1,8 @@
 -- Trees under substitutions that wait.
-use Rattle.std.specs.Prelude.{◌≡◌, ◌+◌, ℕ, zero, List, [], ◌∷◌, Option, None, Some, true}
+use Rattle.std.specs.Prelude.{◌≡◌, ◌+◌, ℕ, zero, List, [], ◌∷◌, Option, None, Some}
 use Rattle.trees.specs.Trees.{Tree, Subst, Var, apply}
 use Rattle.trees.specs.Judgements.{Context}
-use Rattle.trees.specs.Language.{Sb}
+use Rattle.trees.specs.Language.{Tm, Sb}
 use Rattle.book.specs.Contents.{Contents}
 use Rattle.book.specs.declared.kernel.NodeId.{NodeId}
 use Rattle.typed_nodes.specs.Typed.{Says}
@@ -13,7 +13,7 @@ use Rattle.literal_types.specs.declared.waiting.Place.{Place}
 use Rattle.literal_types.specs.declared.waiting.Place.TheVariants as place
 use Rattle.literal_types.specs.Literal.{IsNoForm}
 use Rattle.literal_types.specs.Formed.{IsFormed}
-use Rattle.literal_types.specs.Ways.{is_variable}
+use Rattle.literal_types.specs.Ways.{HasVariable}
 use Rattle.literal_types.specs.Openings.{Types, weight}
 use Rattle.literal_types.specs.Substitutions.{IsEntry, IsFrom, past_entry}
 
@@ -44,26 +44,38 @@ pub record Stands (b : Contents) (node : NodeId) (ws : List Waiting) (H : Contex
   pub types : Types b node home tree
   pub waits : Waits b ws H T home tree
 
--- T, in H, is the variable of that index, under what waits
-pub record IsEntered (b : Contents) (index : ℕ) (ws : List Waiting) (H : Context) (T : Tree) :
+-- T of type S, in H, is the term of the node, under what waits
+pub record StandsTyped (b : Contents) (node : NodeId) (ws : List Waiting) (H : Context)
+    (T S : Tree) : Type 0 where
+  pub home : Context
+  pub tree : Tree
+  pub type : Tree
+  pub says : Says b node (Tm home tree type)
+  pub waits : Waits b ws H T home tree
+  pub type_waits : Waits b ws H S home type
+
+-- T of type S, in H, is the variable of that index, under what waits
+pub record IsEntered (b : Contents) (index : ℕ) (ws : List Waiting) (H : Context) (T S : Tree) :
     Type 0 where
   pub home : Context
-  pub variable : is_variable home index ≡ true
+  pub type : Tree
+  pub variable : HasVariable home index type
   pub waits : Waits b ws H T home (Var index)
+  pub type_waits : Waits b ws H S home type
 
--- T, in H, is what stands at that place, under what waits
-abbrev pub StandsAt : Contents → Place → List Waiting → Context → Tree → Type 0
-StandsAt b (place.Variable index) ws H T = IsEntered b index ws H T
-StandsAt b (place.Term node) ws H T = Stands b node ws H T
+-- T of type S, in H, is what stands at that place, under what waits
+abbrev pub StandsAt : Contents → Place → List Waiting → Context → Tree → Tree → Type 0
+StandsAt b (place.Variable index) ws H T S = IsEntered b index ws H T S
+StandsAt b (place.Term node) ws H T S = StandsTyped b node ws H T S
 
 abbrev pub place_weight : Place → ℕ
 place_weight (place.Variable index) = zero
 place_weight (place.Term node) = weight node
 
--- T, in H, is what the term types, under what waits, or no form
-abbrev pub StandsOrNot : Contents → Option NodeId → List Waiting → Context → Tree → Type 0
-StandsOrNot b None ws H T = IsNoForm T
-StandsOrNot b (Some node) ws H T = Stands b node ws H T
+-- T of type S, in H, is the term of the node, under what waits, or a variable
+abbrev pub StandsOrNot : Contents → Option NodeId → List Waiting → Context → Tree → Tree → Type 0
+StandsOrNot b None ws H T S = (k : ℕ) × (T ≡ Var k)
+StandsOrNot b (Some node) ws H T S = StandsTyped b node ws H T S
 
 abbrev pub found_weight : Option NodeId → ℕ
 found_weight None = zero

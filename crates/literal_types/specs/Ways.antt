@@ -6,7 +6,7 @@ use Rattle.trees.specs.Trees.{Tree, Var, Make, Subst, apply}
 use Rattle.trees.specs.Judgements.{Context, Nil, WithVar, WithName, WithFace, Judgement}
 use Rattle.trees.specs.Judgements.{TreeRule, trees}
 use Rattle.trees.specs.Language.{Ty, Tm, Sb}
-use Rattle.rules.specs.Table.{at, i0, i1, pathp}
+use Rattle.rules.specs.Table.{at, i0, i1, pathp, weakened}
 use Rattle.literal_types.specs.declared.ways.Way.{Way}
 use Rattle.literal_types.specs.declared.ways.Way.TheVariants as way
 use Rattle.literal_types.specs.Formed.{sized, former_tree}
@@ -35,14 +35,15 @@ abbrev pub has_other : Tree → Bool
 has_other (Var k) = false
 has_other (Make op kids) = is_other op
 
--- The index is that of a variable. Variables and names take an index, faces none.
-abbrev pub is_variable : Context → ℕ → Bool
-is_variable Nil k = false
-is_variable (WithVar G A) zero = true
-is_variable (WithVar G A) (suc k) = is_variable G k
-is_variable (WithName G) zero = false
-is_variable (WithName G) (suc k) = is_variable G k
-is_variable (WithFace G p) k = is_variable G k
+-- The context has a variable of that index, of this type. Variables and names take an index, faces
+-- none.
+abbrev pub HasVariable : Context → ℕ → Tree → Type 0
+HasVariable Nil k B = ⊥
+HasVariable (WithVar G A) zero B = B ≡ weakened trees A
+HasVariable (WithVar G A) (suc k) B = (C : Tree) × HasVariable G k C × (B ≡ weakened trees C)
+HasVariable (WithName G) zero B = ⊥
+HasVariable (WithName G) (suc k) B = (C : Tree) × HasVariable G k C × (B ≡ weakened trees C)
+HasVariable (WithFace G p) k B = HasVariable G k B
 
 -- the tree of a typing, where a rule wants these premises for it
 abbrev pub Follows : Way → List Judgement → Context → Tree → Type 0
@@ -50,7 +51,7 @@ Follows way.Same wants K A = (J : Judgement) × (Js : List Judgement) × (wants 
 Follows way.Instance wants K A =
     (d : Subst) × (G : Context) × (B : Tree) × (J : Judgement) × (Js : List Judgement)
     × (wants ≡ Sb K d G ∷ J ∷ Js) × IsOf J G B × (A ≡ apply B d)
-Follows way.Variable wants K A = (A ≡ Var zero) × (is_variable K zero ≡ true)
+Follows way.Variable wants K A = (B : Tree) × (A ≡ Var zero) × HasVariable K zero B
 Follows (way.Family f s) wants K A =
     (B C : Tree) × (Js : List Judgement) × (wants ≡ sized s K B ∷ sized s (WithVar K B) C ∷ Js)
     × (A ≡ former_tree f B C)

@@ -12,7 +12,7 @@ ghost use Rattle.literal_types.specs.Substitutions.{IsFrom};
 ghost use Rattle.literal_types.specs.Waits.{FormStands, Stands};
 
 use crate::forms::{Form, Former, Literal, Size};
-use crate::joined::joined;
+use crate::joins::joined;
 use crate::openings::{Opening, opened};
 use crate::waiting::{Waiting, looked_up};
 use book::{Book, NodeId};

@@ -17,7 +17,7 @@ mod entries;
 mod face_calls;
 mod forms;
 mod found;
-mod joined;
+mod joins;
 mod openings;
 mod past_face;
 mod sources;
@@ -28,3 +28,6 @@ mod with_face;
 
 pub use forms::Literal;
 pub use found::literal;
+pub use joins::{joined, joined_two};
+pub use openings::{first_two, number_at};
+pub use waiting::{Waiting, looked_up};

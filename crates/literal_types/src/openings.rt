@@ -33,7 +33,7 @@ pub fn number_at(numbers: &[u64], place: usize) -> u64
 }
 
 /// The first two of these premises.
-fn first_two(premises: &[u64]) -> (NodeId, NodeId)
+pub fn first_two(premises: &[u64]) -> (NodeId, NodeId)
     requires { 2 ≤ length premises.now }
     ensures first { slice_get premises.now 0 ≡ Some result.0.0 }
     ensures second { slice_get premises.now 1 ≡ Some result.1.0 }

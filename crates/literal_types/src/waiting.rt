@@ -1,9 +1,9 @@
 //! Substitutions that wait.
 
-ghost use Rattle.std.specs.Prelude.{◌≡◌, ◌+◌, ◌<◌, ◌≤◌, ◌∷◌, IfOk, reverse, true};
+ghost use Rattle.std.specs.Prelude.{◌≡◌, ◌+◌, ◌<◌, ◌≤◌, ◌∷◌, IfOk, reverse};
 ghost use Rattle.trees.specs.Trees.{Tree, Var};
 ghost use Rattle.trees.specs.Judgements.{Context};
-ghost use Rattle.literal_types.specs.Ways.{is_variable};
+ghost use Rattle.literal_types.specs.Ways.{HasVariable};
 ghost use Rattle.literal_types.specs.Openings.{weight};
 ghost use Rattle.literal_types.specs.Substitutions.{IsFrom, past_entry};
 ghost use Rattle.literal_types.specs.Waits.{IsEntered, StandsAt, StandsOrNot, found_weight};
@@ -41,11 +41,11 @@ fn entered(
     index: u64,
     waiting: &mut Vec<Waiting>,
 ) -> Result<Place, AllocError>
-    requires { (H : Context) × (T : Tree) × IsEntered book.now index
-        (waiting_form.Sub sub ∷ reverse waiting.old.items) H T }
-    ensures stands { IfOk result (λ place. (H : Context) (T : Tree) →
-        IsEntered book.now index (waiting_form.Sub «sub» ∷ reverse waiting.old.items) H T
-        → StandsAt book.now place (reverse waiting.new.items) H T) }
+    requires { (H : Context) × (T S : Tree) × IsEntered book.now index
+        (waiting_form.Sub sub ∷ reverse waiting.old.items) H T S }
+    ensures stands { IfOk result (λ place. (H : Context) (T S : Tree) →
+        IsEntered book.now index (waiting_form.Sub «sub» ∷ reverse waiting.old.items) H T S
+        → StandsAt book.now place (reverse waiting.new.items) H T S) }
     ensures less { IfOk result (λ place.
         place_weight place + waiting_weight (reverse waiting.new.items)
         < weight «sub» + waiting_weight (reverse waiting.old.items)) }
@@ -82,7 +82,7 @@ fn entered(
 
 /// The index of a variable past an entry.
 fn past_index(book: &Book, below: NodeId, entry: Entry, index: u64) -> u64
-    requires { (K : Context) × IsFrom book.now below K × (is_variable K index ≡ true) }
+    requires { (K : Context) × (A : Tree) × IsFrom book.now below K × HasVariable K index A }
     ensures { Var result ≡ past_entry «entry» (Var index) }
 {
     laws_of_shifts(book);
@@ -92,13 +92,14 @@ fn past_index(book: &Book, below: NodeId, entry: Entry, index: u64) -> u64
     }
 }
 
-/// What the innermost variable becomes under what waits: a node that types it, or None where it is
-/// a variable.
+/// What the innermost variable becomes under what waits: a node that types it, at the type of the
+/// variable, or None where it is a variable.
 pub fn looked_up(book: &Book, waiting: &mut Vec<Waiting>) -> Result<Option<NodeId>, AllocError>
-    requires { (H : Context) × (T : Tree) × IsEntered book.now 0 (reverse waiting.old.items) H T }
-    ensures stands { IfOk result (λ found. (H : Context) (T : Tree) →
-        IsEntered book.now 0 (reverse waiting.old.items) H T
-        → StandsOrNot book.now found (reverse waiting.new.items) H T) }
+    requires { (H : Context) × (T S : Tree)
+        × IsEntered book.now 0 (reverse waiting.old.items) H T S }
+    ensures stands { IfOk result (λ found. (H : Context) (T S : Tree) →
+        IsEntered book.now 0 (reverse waiting.old.items) H T S
+        → StandsOrNot book.now found (reverse waiting.new.items) H T S) }
     ensures less { IfOk result (λ found.
         found_weight found + waiting_weight (reverse waiting.new.items)
         ≤ waiting_weight (reverse waiting.old.items)) }

@@ -8,3 +8,5 @@ pub mod PartLaws
 pub mod EarlierLaws
 pub mod LoopLaws
 pub mod StepLaws
+pub mod AnchorLaws
+pub mod KidLaws

@@ -3,3 +3,5 @@ pub mod Asked
 pub mod Parts
 pub mod Tasks
 pub mod Walks
+pub mod Terms
+pub mod Anchors

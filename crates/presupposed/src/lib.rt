@@ -9,6 +9,7 @@
 //! ```
 #![tactic(auto)]
 
+mod anchors;
 mod earlier;
 mod kids;
 mod memory;
@@ -16,10 +17,13 @@ mod parts;
 mod questions;
 mod right_sides;
 mod tasks;
+mod terms;
 mod walk;
 
+pub use anchors::anchor;
 pub use kids::{kid_of, kids_of};
 pub use memory::Question;
 pub use questions::{context_of, far_of, home_of, left_of, right_of, type_of};
 pub use right_sides::{NoRightSides, RightSides};
+pub use terms::{OpenedTerm, TermKids, fits_of, opened_term};
 pub use walk::Found;

@@ -33,7 +33,7 @@ pub enum Found {
 }
 
 /// These numbers.
-fn listed(numbers: &[u64]) -> Few
+pub fn listed(numbers: &[u64]) -> Few
     requires { length numbers.now ≤ 16 }
     ensures { result ≡ numbers.now }
 {

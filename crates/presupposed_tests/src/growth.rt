@@ -4,8 +4,7 @@ ghost use Rattle.std.specs.Prelude.{IfOk};
 ghost use Rattle.presupposed_tests.specs.Grown.{IsTerm};
 
 use book::{Book, NodeId};
-use presupposed::{Found, NoRightSides, type_of};
-use std::alloc::{AllocError, Global};
+use std::alloc::AllocError;
 use typed_nodes::{empty, identity, successor, term_instance, zero};
 
 /// Zero, and its successors up to the one of this number.
@@ -37,14 +36,4 @@ pub fn instances(book: &mut Book, count: u64) -> Result<NodeId, AllocError>
         term = term_instance(book, sub, term)?;
     }
     Ok(term)
-}
-
-/// What is found behind a term as its type.
-///
-/// # Errors
-/// Only where memory runs out.
-pub fn type_of_term(alloc: Global, book: &mut Book, term: NodeId) -> Result<Found, AllocError>
-    requires { IsTerm book.old term }
-{
-    Ok(type_of(alloc, book, &NoRightSides, term)?)
 }

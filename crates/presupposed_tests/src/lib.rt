@@ -1,9 +1,22 @@
-//! Derivations that grow, and what stands behind their last nodes.
+//! Derivations that grow, and derivations of forms; and what stands behind their last nodes.
 #![tactic(auto)]
 
-mod growth;
+/// The rows of a table, each on a line of its own however long.
+macro_rules! table {
+    ($($row:expr,)*) => { &[$($row),*] };
+}
 
-pub use growth::{instances, successors, type_of_term};
+mod asked;
+mod conversions;
+mod derived;
+mod equal_numbers;
+mod growth;
+mod made_and_used;
+mod pushed_entry;
+
+pub use asked::{left_side, opened_form, type_of_term};
+pub use derived::{converted, made, pushed, shared_equation, used};
+pub use growth::{instances, successors};
 
 #[cfg(test)]
 mod tests;

@@ -1,0 +1,4 @@
+pub mod WayLaws
+pub mod FormLaws
+pub mod TraceLaws
+pub mod UnderLaws
