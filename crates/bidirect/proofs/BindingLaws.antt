@@ -347,20 +347,20 @@ function_planned old new next bs i c same few moved planned =
     (subst (λ w. weights (Infer c ∷ []) < w) (sym (weight_of_none bs i (Function c) same few)) (omega arith))
     (λ b S M is. run_one b S M (Infer c) (is ∙ none_makes bs i (Function c) S same few))
 
-type_reads : (d : CodeDef) → (out-CodeDef d).ty ≡ type_of d
+pub type_reads : (d : CodeDef) → type_of d ≡ (out-CodeDef d).ty
 unfolding roll-CodeDef denote.Hole.Carrier.roll
-type_reads d = ap type_of (roll-out-CodeDef d)
+type_reads d = sym (ap type_of (roll-out-CodeDef d))
 
-body_reads : (d : CodeDef) → (out-CodeDef d).body ≡ body_of d
+pub body_reads : (d : CodeDef) → body_of d ≡ (out-CodeDef d).body
 unfolding roll-CodeDef denote.Hole.Carrier.roll
-body_reads d = ap body_of (roll-out-CodeDef d)
+body_reads d = sym (ap body_of (roll-out-CodeDef d))
 
 pub definition_planned : (old new : Tasks) (next : Next) (bs : Bor (List BinderOf)) (i : Inner) (d : Bor CodeDef) (type body : Bor Code) → i ≡ DefinitionOf d → length bs.now < 1
     → type.now ≡ (out-CodeDef d.now).ty → body.now ≡ (out-CodeDef d.now).body
     → next ≡ Moved → Planned old new (Form type Large ∷ DefiningOf (Body body) ∷ []) → Plans old new (BindingOf (Under bs i)) next
 definition_planned old new next bs i d type body same few type_is body_is moved planned =
-    let is_type : type.now ≡ type_of d.now = type_is ∙ type_reads d.now in
-    let is_body : body.now ≡ body_of d.now = body_is ∙ body_reads d.now in
+    let is_type : type.now ≡ type_of d.now = type_is ∙ sym (type_reads d.now) in
+    let is_body : body.now ≡ body_of d.now = body_is ∙ sym (body_reads d.now) in
     let heavy : weight_of type.now ≡ weight_of (type_of d.now) = ap weight_of is_type in
     let heavier : weight_of body.now ≡ weight_of (body_of d.now) = ap weight_of is_body in
     plans old new next (BindingOf (Under bs i)) (Form type Large ∷ DefiningOf (Body body) ∷ []) moved planned

@@ -32,6 +32,7 @@ use Rattle.bidirect.specs.Weights.{binders_size, binder_weight, def_weight, size
 use Rattle.bidirect.specs.Tasks.{Run, Then}
 use Rattle.bidirect.proofs.Planning.{run_one, plans}
 use Rattle.bidirect.proofs.OutcomeLaws.{then_where, then_map}
+use Rattle.bidirect.proofs.BindingLaws.{type_reads, body_reads}
 use Rattle.bidirect.proofs.GrowthLaws.{run_append}
 use Rattle.bidirect.proofs.TypingRows.{tree_typing, binders_typed, binders_mean}
 
@@ -97,14 +98,6 @@ means_of-CodeDef x n bs t c =
 -- what a definition makes of a state
 abbrev pub definition_outcome : CodeDef → State → Option State
 definition_outcome d = outcome (definition_typed d) (definition d)
-
-type_reads : (d : CodeDef) → type_of d ≡ (out-CodeDef d).ty
-unfolding roll-CodeDef denote.Hole.Carrier.roll
-type_reads d = sym (ap type_of (roll-out-CodeDef d))
-
-body_reads : (d : CodeDef) → body_of d ≡ (out-CodeDef d).body
-unfolding roll-CodeDef denote.Hole.Carrier.roll
-body_reads d = sym (ap body_of (roll-out-CodeDef d))
 
 abbrev typing_parts : ℕ → List BinderOf → Code → Code → BlockTyping
 typing_parts n bs t c = definition_typing n (map binder_typed bs) (typed t) (typed c) (parts_mean (map binder_typed bs) (typed t) (typed c))

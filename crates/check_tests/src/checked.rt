@@ -95,13 +95,13 @@ fn wide(alloc: Global, count: u32) -> Result<String, AllocError> {
     Ok(text)
 }
 
-/// A number, by applications in one another.
+/// A number, by an application in so many others.
 fn nested(alloc: Global, count: u32) -> Result<String, AllocError> {
     let mut text = String::from_str(alloc, "s (y : nat) : nat = suc y\nx : nat = ")?;
     for _at in 0..count {
         text.push_str("s (")?;
     }
-    text.push_str("zero")?;
+    text.push_str("s zero")?;
     for _at in 0..count {
         text.push_str(")")?;
     }
@@ -115,7 +115,7 @@ fn towers_and_deep_modules_are_answered(rt: HostRuntime) -> Result<(), Fail> {
         (chain(rt.alloc(), 60)?, Is::Direct(60, 120)),
         (arrows(rt.alloc(), 30)?, Is::Direct(59, 118)),
         (wide(rt.alloc(), 30)?, Is::Direct(31, 62)),
-        (nested(rt.alloc(), 254)?, Is::Direct(2, 4)),
+        (nested(rt.alloc(), 511)?, Is::Direct(2, 4)),
     ];
     for (defs, is) in &cases {
         let found = answered(rt.alloc(), defs.as_str())?;
