@@ -309,16 +309,20 @@ def meanings(lines):
     return rows
 
 
+def answer(data):
+    """The line that `replay` prints for these bytes, and the roots where all rows are right."""
+    *lines, cut = data.decode("latin-1").split("\n")
+    rows = meanings(lines)
+    if len(rows) < len(lines) or cut or not lines:
+        return f"no: row {len(rows)}\n", None
+    roots = [rows[int(line[2:])][1] for line in lines if line.startswith("r ")]
+    return f"yes: {len(rows)} rows, {len(roots)} roots\n", roots
+
+
 def verdict(lines):
     """The line that `replay` prints for a file of these lines, each ended by a newline."""
-    rows = meanings(lines)
-    if len(rows) < len(lines):
-        return f"no: row {len(rows)}\n"
-    if not rows:
-        return "no: row 0\n"
-    roots = sum(line.startswith("r ") for line in lines)
-    return f"yes: {len(rows)} rows, {roots} roots\n"
+    return answer("".join(line + "\n" for line in lines).encode("latin-1"))[0]
 
 
 if __name__ == "__main__":
-    print(verdict(pathlib.Path(sys.argv[1]).read_text().splitlines()), end="")
+    print(answer(pathlib.Path(sys.argv[1]).read_bytes())[0], end="")

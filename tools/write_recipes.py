@@ -31,12 +31,14 @@ CRATES = {
         "family_of_numbers",
     ],
     "literal_types": ["with_face", "past_face"],
+    "literal_terms": ["equation_instance", "equations_joined"],
     "openings": [
         "open_binder", "open_pathp", "open_glue_type", "open_lam", "open_pair", "open_plam",
         "open_glue", "open_binder_u", "open_pathp_u", "open_glue_type_u", "up_var", "up_name",
         "up_face", "fits_pi", "fits_sig", "anchor", "anchor_conv", "beta_asks", "beta_answers",
     ],
     "glue_entries": ["equiv_tycong"],
+    "presupposed_tests": ["conversions", "pushed_entry", "made_and_used", "equal_numbers"],
     "book_tests": ["two", "successor", "constant", "twice", "variables"],
     "kan_tests": [
         "fill_faces", "fill_lines", "contr_variable", "pres_numbers", "equiv_variable",
@@ -48,7 +50,7 @@ EARLIER |= {name: CRATES["kan_fill"] for name in CRATES["kan_tests"]}
 
 # The crates whose tables read the parts of a recipe from its premises, where these name them, so
 # that a call passes the others alone, which come first.
-READ = {"typing_rules", "literal_types"}
+READ = {"typing_rules", "literal_types", "literal_terms", "openings"}
 
 WIDTH = 100
 MOST_PARTS, MOST_WANTED, MOST_PREMISES, MOST_KIDS = 10, 7, 16, 4
