@@ -1,7 +1,7 @@
 //! Written by tools/write_recipes.py.
 
 use recipes::Row;
-use recipes::Row::{Conclude, Part, Premise};
+use recipes::Row::{Conclude, Field, Premise};
 use theory::EqualityRule::{TmConv, TyEqRefl};
 use theory::RuleName::Equality;
 
@@ -12,11 +12,11 @@ pub static ANCHOR: &[Row] = table! {
     Premise(0),
     // 1: G >> A
     Premise(1),
-    Part(0),
-    Part(2),
+    Field(0, 0),
+    Field(0, 2),
     // 4: G >> A = A
     Conclude(Equality(TyEqRefl), [2, 3, 0, 0, 0, 0, 0, 0, 0, 0], [1, 0, 0, 0, 0, 0, 0]),
-    Part(1),
+    Field(0, 1),
     // 6: G >> a : A
     Conclude(Equality(TmConv), [2, 5, 3, 3, 0, 0, 0, 0, 0, 0], [0, 4, 0, 0, 0, 0, 0]),
 };

@@ -1,7 +1,7 @@
 //! Written by tools/write_recipes.py.
 
 use recipes::Row;
-use recipes::Row::{Conclude, Part, Premise};
+use recipes::Row::{Conclude, Field, Premise};
 use theory::EqualityRule::{TmConv, TyEqRefl, TyEqTrans};
 use theory::RuleName::Equality;
 
@@ -14,14 +14,14 @@ pub static ANCHOR_CONV: &[Row] = table! {
     Premise(1),
     // 2: G >> B
     Premise(2),
-    Part(0),
-    Part(3),
+    Field(0, 0),
+    Field(1, 2),
     // 5: G >> B = B
     Conclude(Equality(TyEqRefl), [3, 4, 0, 0, 0, 0, 0, 0, 0, 0], [2, 0, 0, 0, 0, 0, 0]),
-    Part(2),
+    Field(0, 2),
     // 7: G >> A = B
     Conclude(Equality(TyEqTrans), [3, 6, 4, 4, 0, 0, 0, 0, 0, 0], [1, 5, 0, 0, 0, 0, 0]),
-    Part(1),
+    Field(0, 1),
     // 9: G >> a : B
     Conclude(Equality(TmConv), [3, 8, 6, 4, 0, 0, 0, 0, 0, 0], [0, 7, 0, 0, 0, 0, 0]),
 };

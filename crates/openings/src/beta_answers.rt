@@ -1,7 +1,7 @@
 //! Written by tools/write_recipes.py.
 
 use recipes::Row;
-use recipes::Row::{Conclude, Instance, Make, Part, Premise, Push, Shift};
+use recipes::Row::{Conclude, Field, Instance, Make, Part, Premise, Push, Shift};
 use theory::EqualityRule::TmEqConv;
 use theory::Op;
 use theory::PiRule::PiBeta;
@@ -16,11 +16,11 @@ pub static BETA_ANSWERS: &[Row] = table! {
     Premise(1),
     // 2: G >> E{a} = B{a}
     Premise(2),
-    Part(0),
-    Part(1),
-    Part(2),
-    Part(6),
-    Part(3),
+    Field(1, 0),
+    Field(1, 2),
+    Field(0, 1),
+    Field(1, 1),
+    Field(0, 2),
     // 8: G >> app (lam C b) a = b{a} : E{a}
     Conclude(Pi(PiBeta), [3, 4, 5, 6, 7, 0, 0, 0, 0, 0], [0, 1, 0, 0, 0, 0, 0]),
     Make(Op::Lam, [4, 5, 0, 0]),

@@ -1,7 +1,7 @@
 //! Written by tools/write_recipes.py.
 
 use recipes::Row;
-use recipes::Row::{Conclude, Part, Premise, Push, Shift, WithVar};
+use recipes::Row::{Conclude, Field, Premise, Push, Shift, WithVar};
 use theory::ContextRule::{SubId, SubVar};
 use theory::EqualityRule::{TmConv, TyEqSym};
 use theory::InstanceRule::TySub;
@@ -27,12 +27,12 @@ pub static BETA_ASKS: &[Row] = table! {
     Premise(6),
     // 7: G >> C = A
     Premise(7),
-    Part(0),
-    Part(1),
-    Part(4),
+    Field(0, 0),
+    Field(1, 1),
+    Field(3, 1),
     // 11: G >> A = C
     Conclude(Equality(TyEqSym), [8, 9, 10, 0, 0, 0, 0, 0, 0, 0], [7, 0, 0, 0, 0, 0, 0]),
-    Part(6),
+    Field(5, 1),
     // 13: G >> a : C
     Conclude(Equality(TmConv), [8, 12, 10, 9, 0, 0, 0, 0, 0, 0], [5, 11, 0, 0, 0, 0, 0]),
     // 14: id : G to G
@@ -42,13 +42,13 @@ pub static BETA_ASKS: &[Row] = table! {
     Conclude(Contexts(SubVar), [8, 15, 8, 9, 12, 0, 0, 0, 0, 0], [14, 1, 13, 0, 0, 0, 0]),
     Push(15, 12),
     WithVar(8, 9),
-    Part(3),
+    Field(2, 2),
     // 20: G >> E{a}
     Conclude(Instances(TySub), [8, 17, 18, 19, 0, 0, 0, 0, 0, 0], [16, 6, 0, 0, 0, 0, 0]),
     // 21: push id a : G to G.A
     Conclude(Contexts(SubVar), [8, 15, 8, 10, 12, 0, 0, 0, 0, 0], [14, 3, 5, 0, 0, 0, 0]),
     WithVar(8, 10),
-    Part(5),
+    Field(4, 1),
     // 24: G >> B{a}
     Conclude(Instances(TySub), [8, 17, 22, 23, 0, 0, 0, 0, 0, 0], [21, 4, 0, 0, 0, 0, 0]),
 };

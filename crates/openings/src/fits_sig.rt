@@ -1,7 +1,7 @@
 //! Written by tools/write_recipes.py.
 
 use recipes::Row;
-use recipes::Row::{Conclude, Part, Premise};
+use recipes::Row::{Conclude, Field, Premise};
 use theory::RuleName::Sigma;
 use theory::SigmaRule::SigTy;
 
@@ -14,9 +14,9 @@ pub static FITS_SIG: &[Row] = table! {
     Premise(1),
     // 2: G.A >> B
     Premise(2),
-    Part(0),
-    Part(1),
-    Part(2),
+    Field(0, 0),
+    Field(1, 1),
+    Field(2, 1),
     // 6: G >> sig A B
     Conclude(Sigma(SigTy), [3, 4, 5, 0, 0, 0, 0, 0, 0, 0], [1, 2, 0, 0, 0, 0, 0]),
 };

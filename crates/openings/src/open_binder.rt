@@ -1,7 +1,7 @@
 //! Written by tools/write_recipes.py.
 
 use recipes::Row;
-use recipes::Row::{Conclude, Instance, Part, Premise, Push, Shift, Then, Var, WithVar};
+use recipes::Row::{Conclude, Field, Instance, Premise, Push, Shift, Then, Var, WithVar};
 use theory::ContextRule::{SubVar, SubWk};
 use theory::InstanceRule::{TmVar, TySub};
 use theory::RuleName::{Contexts, Instances};
@@ -15,10 +15,10 @@ pub static OPEN_BINDER: &[Row] = table! {
     Premise(1),
     // 2: G.A >> B
     Premise(2),
-    Part(0),
-    Part(1),
-    Part(2),
-    Part(3),
+    Field(0, 0),
+    Field(0, 1),
+    Field(0, 2),
+    Field(1, 1),
     // 7: H >> A[d]
     Conclude(Instances(TySub), [3, 4, 5, 6, 0, 0, 0, 0, 0, 0], [0, 1, 0, 0, 0, 0, 0]),
     Instance(6, 4),
@@ -34,7 +34,7 @@ pub static OPEN_BINDER: &[Row] = table! {
     Conclude(Contexts(SubVar), [11, 13, 5, 6, 14, 0, 0, 0, 0, 0], [9, 1, 10, 0, 0, 0, 0]),
     Push(13, 14),
     WithVar(5, 6),
-    Part(4),
+    Field(2, 1),
     // 19: H.A[d] >> B[push (d then up) (var 0)]
     Conclude(Instances(TySub), [11, 16, 17, 18, 0, 0, 0, 0, 0, 0], [15, 2, 0, 0, 0, 0, 0]),
 };

@@ -1,7 +1,7 @@
 //! Written by tools/write_recipes.py.
 
 use recipes::Row;
-use recipes::Row::{Conclude, Part, Premise, WithVar};
+use recipes::Row::{Conclude, Field, Premise, WithVar};
 use theory::RuleName::Universe;
 use theory::UniverseRule::TyU;
 
@@ -12,12 +12,12 @@ pub static OPEN_BINDER_U: &[Row] = table! {
     Premise(0),
     // 1: G.A >> B : U
     Premise(1),
-    Part(0),
-    Part(1),
+    Field(0, 0),
+    Field(0, 1),
     // 4: G >> A
     Conclude(Universe(TyU), [2, 3, 0, 0, 0, 0, 0, 0, 0, 0], [0, 0, 0, 0, 0, 0, 0]),
     WithVar(2, 3),
-    Part(2),
+    Field(1, 1),
     // 7: G.A >> B
     Conclude(Universe(TyU), [5, 6, 0, 0, 0, 0, 0, 0, 0, 0], [1, 0, 0, 0, 0, 0, 0]),
 };

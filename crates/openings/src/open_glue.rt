@@ -1,7 +1,7 @@
 //! Written by tools/write_recipes.py.
 
 use recipes::Row;
-use recipes::Row::{Conclude, Instance, Make, Part, Premise, Shift, Var, WithFace};
+use recipes::Row::{Conclude, Field, Instance, Make, Part, Premise, Shift, Var, WithFace};
 use theory::ContextRule::{SubFace, SubWkFace};
 use theory::InstanceRule::{TmEqSub, TmSub, TySub};
 use theory::Op;
@@ -24,9 +24,9 @@ pub static OPEN_GLUE: &[Row] = table! {
     Premise(5),
     // 6: G.{p} >> app (fst w) c = a : A
     Premise(6),
-    Part(0),
-    Part(1),
-    Part(2),
+    Field(0, 0),
+    Field(0, 1),
+    Field(0, 2),
     Part(4),
     Instance(10, 8),
     // 12: d : H.{p[d]} to G
@@ -34,14 +34,14 @@ pub static OPEN_GLUE: &[Row] = table! {
     WithFace(7, 11),
     // 14: d : H.{p[d]} to G.{p}
     Conclude(Contexts(SubFace), [13, 8, 9, 10, 0, 0, 0, 0, 0, 0], [12, 0, 0, 0, 0, 0, 0]),
-    Part(3),
+    Field(1, 1),
     // 16: H >> A[d]
     Conclude(Instances(TySub), [7, 8, 9, 15, 0, 0, 0, 0, 0, 0], [0, 1, 0, 0, 0, 0, 0]),
     WithFace(9, 10),
-    Part(5),
+    Field(2, 1),
     // 19: H.{p[d]} >> T[d]
     Conclude(Instances(TySub), [13, 8, 17, 18, 0, 0, 0, 0, 0, 0], [14, 2, 0, 0, 0, 0, 0]),
-    Part(6),
+    Field(3, 1),
     Shift(1),
     Instance(15, 21),
     Make(Op::Pi, [18, 22, 0, 0]),
@@ -65,10 +65,10 @@ pub static OPEN_GLUE: &[Row] = table! {
     Make(Op::Sig, [23, 40, 0, 0]),
     // 42: H.{p[d]} >> w[d] : equiv T[d] A[d]
     Conclude(Instances(TmSub), [13, 8, 17, 20, 41, 0, 0, 0, 0, 0], [14, 3, 0, 0, 0, 0, 0]),
-    Part(7),
+    Field(4, 1),
     // 44: H.{p[d]} >> c[d] : T[d]
     Conclude(Instances(TmSub), [13, 8, 17, 43, 18, 0, 0, 0, 0, 0], [14, 4, 0, 0, 0, 0, 0]),
-    Part(8),
+    Field(5, 1),
     // 46: H >> a[d] : A[d]
     Conclude(Instances(TmSub), [7, 8, 9, 45, 15, 0, 0, 0, 0, 0], [0, 5, 0, 0, 0, 0, 0]),
     Make(Op::Fst, [20, 0, 0, 0]),

@@ -1,7 +1,7 @@
 //! Written by tools/write_recipes.py.
 
 use recipes::Row;
-use recipes::Row::{Conclude, Instance, Make, Part, Premise, Shift, Var, WithFace};
+use recipes::Row::{Conclude, Field, Instance, Make, Part, Premise, Shift, Var, WithFace};
 use theory::ContextRule::{SubFace, SubWkFace};
 use theory::InstanceRule::{TmSub, TySub};
 use theory::Op;
@@ -18,9 +18,9 @@ pub static OPEN_GLUE_TYPE: &[Row] = table! {
     Premise(2),
     // 3: G.{p} >> w : equiv T A
     Premise(3),
-    Part(0),
-    Part(1),
-    Part(2),
+    Field(0, 0),
+    Field(0, 1),
+    Field(0, 2),
     Part(4),
     Instance(7, 5),
     // 9: d : H.{p[d]} to G
@@ -28,14 +28,14 @@ pub static OPEN_GLUE_TYPE: &[Row] = table! {
     WithFace(4, 8),
     // 11: d : H.{p[d]} to G.{p}
     Conclude(Contexts(SubFace), [10, 5, 6, 7, 0, 0, 0, 0, 0, 0], [9, 0, 0, 0, 0, 0, 0]),
-    Part(3),
+    Field(1, 1),
     // 13: H >> A[d]
     Conclude(Instances(TySub), [4, 5, 6, 12, 0, 0, 0, 0, 0, 0], [0, 1, 0, 0, 0, 0, 0]),
     WithFace(6, 7),
-    Part(5),
+    Field(2, 1),
     // 16: H.{p[d]} >> T[d]
     Conclude(Instances(TySub), [10, 5, 14, 15, 0, 0, 0, 0, 0, 0], [11, 2, 0, 0, 0, 0, 0]),
-    Part(6),
+    Field(3, 1),
     Shift(1),
     Instance(12, 18),
     Make(Op::Pi, [15, 19, 0, 0]),

@@ -1,7 +1,7 @@
 //! Written by tools/write_recipes.py.
 
 use recipes::Row;
-use recipes::Row::{Conclude, Part, Premise, WithFace};
+use recipes::Row::{Conclude, Field, Part, Premise, WithFace};
 use theory::RuleName::Universe;
 use theory::UniverseRule::TyU;
 
@@ -14,13 +14,13 @@ pub static OPEN_GLUE_TYPE_U: &[Row] = table! {
     Premise(1),
     // 2: G.{p} >> w : equiv T A
     Premise(2),
-    Part(0),
-    Part(1),
+    Field(0, 0),
+    Field(0, 1),
     // 5: G >> A
     Conclude(Universe(TyU), [3, 4, 0, 0, 0, 0, 0, 0, 0, 0], [0, 0, 0, 0, 0, 0, 0]),
     Part(2),
     WithFace(3, 6),
-    Part(3),
+    Field(1, 1),
     // 9: G.{p} >> T
     Conclude(Universe(TyU), [7, 8, 0, 0, 0, 0, 0, 0, 0, 0], [1, 0, 0, 0, 0, 0, 0]),
 };

@@ -1,7 +1,7 @@
 //! Written by tools/write_recipes.py.
 
 use recipes::Row;
-use recipes::Row::{Conclude, Instance, Part, Premise, Push, Shift, Then, Var, WithVar};
+use recipes::Row::{Conclude, Field, Instance, Premise, Push, Shift, Then, Var, WithVar};
 use theory::ContextRule::{SubVar, SubWk};
 use theory::InstanceRule::{TmSub, TmVar, TySub};
 use theory::RuleName::{Contexts, Instances};
@@ -19,10 +19,10 @@ pub static OPEN_PAIR: &[Row] = table! {
     Premise(3),
     // 4: G >> b : B{a}
     Premise(4),
-    Part(0),
-    Part(1),
-    Part(2),
-    Part(5),
+    Field(0, 0),
+    Field(0, 1),
+    Field(0, 2),
+    Field(1, 1),
     // 9: H >> A[d]
     Conclude(Instances(TySub), [5, 6, 7, 8, 0, 0, 0, 0, 0, 0], [0, 1, 0, 0, 0, 0, 0]),
     Instance(8, 6),
@@ -38,13 +38,13 @@ pub static OPEN_PAIR: &[Row] = table! {
     Conclude(Contexts(SubVar), [13, 15, 7, 8, 16, 0, 0, 0, 0, 0], [11, 1, 12, 0, 0, 0, 0]),
     Push(15, 16),
     WithVar(7, 8),
-    Part(6),
+    Field(2, 1),
     // 21: H.A[d] >> B[push (d then up) (var 0)]
     Conclude(Instances(TySub), [13, 18, 19, 20, 0, 0, 0, 0, 0, 0], [17, 2, 0, 0, 0, 0, 0]),
-    Part(3),
+    Field(3, 1),
     // 23: H >> a[d] : A[d]
     Conclude(Instances(TmSub), [5, 6, 7, 22, 8, 0, 0, 0, 0, 0], [0, 3, 0, 0, 0, 0, 0]),
-    Part(4),
+    Field(4, 1),
     Shift(0),
     Push(25, 22),
     Instance(20, 26),

@@ -1,7 +1,7 @@
 //! Written by tools/write_recipes.py.
 
 use recipes::Row;
-use recipes::Row::{Conclude, Instance, Make, Part, Premise, Push, Shift, Then, Var, WithName};
+use recipes::Row::{Conclude, Field, Instance, Make, Premise, Push, Shift, Then, Var, WithName};
 use theory::ContextRule::{SubForm, SubWkName};
 use theory::InstanceRule::{TmSub, TySub};
 use theory::Op;
@@ -18,9 +18,9 @@ pub static OPEN_PATHP: &[Row] = table! {
     Premise(2),
     // 3: G >> v : A{1}
     Premise(3),
-    Part(0),
-    Part(1),
-    Part(2),
+    Field(0, 0),
+    Field(0, 1),
+    Field(0, 2),
     // 7: d then up : H.I to G
     Conclude(Contexts(SubWkName), [4, 5, 6, 0, 0, 0, 0, 0, 0, 0], [0, 0, 0, 0, 0, 0, 0]),
     WithName(4),
@@ -31,17 +31,17 @@ pub static OPEN_PATHP: &[Row] = table! {
     Conclude(Contexts(SubForm), [8, 10, 6, 11, 0, 0, 0, 0, 0, 0], [7, 0, 0, 0, 0, 0, 0]),
     Push(10, 11),
     WithName(6),
-    Part(3),
+    Field(1, 1),
     // 16: H.I >> A[push (d then up) (var 0)]
     Conclude(Instances(TySub), [8, 13, 14, 15, 0, 0, 0, 0, 0, 0], [12, 1, 0, 0, 0, 0, 0]),
-    Part(4),
+    Field(2, 1),
     Shift(0),
     Make(Op::I0, [0, 0, 0, 0]),
     Push(18, 19),
     Instance(15, 20),
     // 22: H >> u[d] : A[push d i0]
     Conclude(Instances(TmSub), [4, 5, 6, 17, 21, 0, 0, 0, 0, 0], [0, 2, 0, 0, 0, 0, 0]),
-    Part(5),
+    Field(3, 1),
     Make(Op::I1, [0, 0, 0, 0]),
     Push(18, 24),
     Instance(15, 25),

@@ -1,7 +1,7 @@
 //! Written by tools/write_recipes.py.
 
 use recipes::Row;
-use recipes::Row::{Conclude, Part, Premise, WithName};
+use recipes::Row::{Conclude, Field, Premise, WithName};
 use theory::RuleName::Universe;
 use theory::UniverseRule::TyU;
 
@@ -14,9 +14,9 @@ pub static OPEN_PATHP_U: &[Row] = table! {
     Premise(1),
     // 2: G >> v : A{1}
     Premise(2),
-    Part(0),
+    Field(1, 0),
     WithName(3),
-    Part(1),
+    Field(0, 1),
     // 6: G.I >> A
     Conclude(Universe(TyU), [4, 5, 0, 0, 0, 0, 0, 0, 0, 0], [0, 0, 0, 0, 0, 0, 0]),
 };

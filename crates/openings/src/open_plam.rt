@@ -1,7 +1,7 @@
 //! Written by tools/write_recipes.py.
 
 use recipes::Row;
-use recipes::Row::{Conclude, Instance, Make, Part, Premise, Push, Shift, Then, Var, WithName};
+use recipes::Row::{Conclude, Field, Instance, Make, Premise, Push, Shift, Then, Var, WithName};
 use theory::ContextRule::{SubForm, SubWkName};
 use theory::InstanceRule::{TmEqSub, TmSub};
 use theory::Op;
@@ -18,9 +18,9 @@ pub static OPEN_PLAM: &[Row] = table! {
     Premise(2),
     // 3: G >> b{1} = v : A{1}
     Premise(3),
-    Part(0),
-    Part(1),
-    Part(2),
+    Field(0, 0),
+    Field(0, 1),
+    Field(0, 2),
     // 7: d then up : H.I to G
     Conclude(Contexts(SubWkName), [4, 5, 6, 0, 0, 0, 0, 0, 0, 0], [0, 0, 0, 0, 0, 0, 0]),
     WithName(4),
@@ -31,22 +31,22 @@ pub static OPEN_PLAM: &[Row] = table! {
     Conclude(Contexts(SubForm), [8, 10, 6, 11, 0, 0, 0, 0, 0, 0], [7, 0, 0, 0, 0, 0, 0]),
     Push(10, 11),
     WithName(6),
-    Part(4),
-    Part(3),
+    Field(1, 1),
+    Field(1, 2),
     // 17: H.I >> b[push (d then up) (var 0)] : A[push (d then up) (var 0)]
     Conclude(Instances(TmSub), [8, 13, 14, 15, 16, 0, 0, 0, 0, 0], [12, 1, 0, 0, 0, 0, 0]),
     Shift(0),
     Make(Op::I0, [0, 0, 0, 0]),
     Push(18, 19),
     Instance(15, 20),
-    Part(5),
+    Field(2, 2),
     Instance(16, 20),
     // 24: H >> b[push d i0] = u[d] : A[push d i0]
     Conclude(Instances(TmEqSub), [4, 5, 6, 21, 22, 23, 0, 0, 0, 0], [0, 2, 0, 0, 0, 0, 0]),
     Make(Op::I1, [0, 0, 0, 0]),
     Push(18, 25),
     Instance(15, 26),
-    Part(6),
+    Field(3, 2),
     Instance(16, 26),
     // 30: H >> b[push d i1] = v[d] : A[push d i1]
     Conclude(Instances(TmEqSub), [4, 5, 6, 27, 28, 29, 0, 0, 0, 0], [0, 3, 0, 0, 0, 0, 0]),

@@ -1,7 +1,7 @@
 //! Written by tools/write_recipes.py.
 
 use recipes::Row;
-use recipes::Row::{Conclude, Part, Premise, Shift};
+use recipes::Row::{Conclude, Field, Part, Premise, Shift};
 use theory::ContextRule::{SubId, SubWkFace};
 use theory::RuleName::Contexts;
 
@@ -10,7 +10,7 @@ use theory::RuleName::Contexts;
 pub static UP_FACE: &[Row] = table! {
     // 0: ctx H
     Premise(0),
-    Part(0),
+    Field(0, 0),
     // 2: id : H to H
     Conclude(Contexts(SubId), [1, 0, 0, 0, 0, 0, 0, 0, 0, 0], [0, 0, 0, 0, 0, 0, 0]),
     Shift(0),

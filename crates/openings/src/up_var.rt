@@ -1,7 +1,7 @@
 //! Written by tools/write_recipes.py.
 
 use recipes::Row;
-use recipes::Row::{Conclude, Part, Premise, Shift};
+use recipes::Row::{Conclude, Field, Premise, Shift};
 use theory::ContextRule::{SubId, SubWk};
 use theory::RuleName::Contexts;
 
@@ -12,11 +12,11 @@ pub static UP_VAR: &[Row] = table! {
     Premise(0),
     // 1: H >> A
     Premise(1),
-    Part(0),
+    Field(0, 0),
     // 3: id : H to H
     Conclude(Contexts(SubId), [2, 0, 0, 0, 0, 0, 0, 0, 0, 0], [0, 0, 0, 0, 0, 0, 0]),
     Shift(0),
-    Part(1),
+    Field(1, 1),
     // 6: up : H.A to H
     Conclude(Contexts(SubWk), [2, 4, 2, 5, 0, 0, 0, 0, 0, 0], [3, 1, 0, 0, 0, 0, 0]),
 };
