@@ -15,7 +15,7 @@ use Rattle.theory.specs.declared.rule.NatRule.TheVariants.{NatU}
 use Rattle.theory.specs.declared.rule.SystemRule.TheVariants.{SysTy}
 use Rattle.theory.specs.declared.rule.CompRule.TheVariants.{Comp}
 use Rattle.theory.specs.declared.rule.GlueRule.TheVariants.{GlueTy}
-use Rattle.trees.specs.Trees.{Tree, Subst, apply, then, push, up, id}
+use Rattle.trees.specs.Trees.{Tree, Subst, then, push, up, id}
 use Rattle.trees.specs.Judgements.{Context, WithVar, WithName, WithFace, Judgement, TreeRule}
 use Rattle.trees.specs.Language.{Ty, Tm, Sb, IsFormula}
 use Rattle.substitution.specs.Action.{look}

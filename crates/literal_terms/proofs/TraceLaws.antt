@@ -18,7 +18,6 @@ use Rattle.literal_types.specs.Ways.{HasVariable}
 use Rattle.literal_types.specs.Waits.{IsEntered, StandsTyped, Waits}
 use Rattle.literal_types.proofs.GrowthLaws.{entry_grows}
 use Rattle.literal_types.proofs.WaitLaws.{same_sub, waits_all, waits_same}
-use Rattle.literal_terms.specs.declared.forms.Glued.{Glued}
 use Rattle.literal_terms.specs.declared.forms.TermForm.{TermForm}
 use Rattle.literal_terms.specs.declared.forms.TermForm.TheVariants as form
 use Rattle.literal_terms.specs.declared.traces.Trace.{Trace}

@@ -2,7 +2,7 @@
 use Rattle.std.specs.Prelude.{◌≡◌, ◌+◌, ℕ, Bool, List, Option, None, Some, true, false, reverse}
 use Rattle.trees.specs.Trees.{Tree, Subst, apply, id}
 use Rattle.trees.specs.Judgements.{Context}
-use Rattle.trees.specs.Language.{Tm, TyEq, Sb}
+use Rattle.trees.specs.Language.{TyEq, Sb}
 use Rattle.book.specs.Contents.{Contents}
 use Rattle.book.specs.declared.kernel.NodeId.{NodeId}
 use Rattle.typed_nodes.specs.Typed.{Says}

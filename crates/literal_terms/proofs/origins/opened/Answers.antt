@@ -1,7 +1,6 @@
-use Rattle.std.proofs.Common.{◌<◌, refl, arith}
-use Rattle.trees.specs.Language.{Tm}
+use Rattle.std.proofs.Common.{◌<◌}
 use Rattle.literal_types.proofs.StepLaws.{all_at}
-use Rattle.literal_types.proofs.WeightLaws.{some_weight, one_earlier, two_earlier}
+use Rattle.literal_types.proofs.WeightLaws.{some_weight, two_earlier}
 use Rattle.literal_terms.specs.declared.ways.Way.TheVariants as way
 use Rattle.literal_terms.proofs.FormLaws.{followed, opens_converted, opens_function, opens_glued, opens_instance, opens_pair, opens_path, six_glued, three_pair, three_path, two_converted, two_function, two_instance}
 use Rattle.literal_terms.proofs.origins.opened.Goals as goal

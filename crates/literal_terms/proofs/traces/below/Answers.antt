@@ -1,5 +1,4 @@
 use Rattle.std.proofs.Common.{Some, subst}
-use Rattle.trees.specs.Trees.{then}
 use Rattle.typed_nodes.proofs.GrowthLaws.{says_later}
 use Rattle.trees.specs.Language.{Sb}
 use Rattle.literal_terms.specs.Traces.{IsJoined}

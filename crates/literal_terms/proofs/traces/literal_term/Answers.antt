@@ -1,8 +1,6 @@
-use Rattle.std.proofs.Common.{[], reverse, refl, sym, ap, subst, Some}
-use Rattle.trees.specs.Language.{Tm}
+use Rattle.std.proofs.Common.{reverse, refl, sym, ap, subst, Some}
 use Rattle.literal_types.proofs.GrowthLaws.{extends_extends, extends_itself}
-use Rattle.literal_terms.specs.declared.origins.Origin.TheVariants as origin
-use Rattle.literal_terms.specs.Traces.{IsJoined, IsTraced, IsTracedTo, LooksUp}
+use Rattle.literal_terms.specs.Traces.{IsJoined, LooksUp}
 use Rattle.literal_terms.proofs.TraceLaws.{joined_here, other_waits, restacked, stands_again, stands_here}
 use Rattle.literal_terms.proofs.traces.literal_term.Goals as goal
 

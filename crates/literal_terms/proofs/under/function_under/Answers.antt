@@ -1,12 +1,11 @@
-use Rattle.std.proofs.Common.{◌≡◌, ◌≤◌, ◌^◌, [], ◌∷◌, refl, sym, ◌∙◌, ap, subst, arith, Some}
+use Rattle.std.proofs.Common.{◌≤◌, ◌^◌, [], ◌∷◌, refl, ◌∙◌, ap}
 use Rattle.std.proofs.lemmas.List.Elements.{All-nil}
-use Rattle.trees.specs.Judgements.{Context, WithVar, WithName, WithFace, trees}
-use Rattle.trees.specs.Trees.{Tree, Subst, apply, push}
+use Rattle.trees.specs.Judgements.{Context, WithVar, trees}
+use Rattle.trees.specs.Trees.{Tree, Subst, apply}
 use Rattle.trees.specs.Language.{Ty, Tm, Sb}
 use Rattle.trees.specs.Things.{ATree, ASubst, AContext}
 use Rattle.substitution.specs.Forms.{lift}
 use Rattle.conditions.specs.Sides.{SideHolds}
-use Rattle.rules.specs.Table.{at}
 use Rattle.recipes.specs.Derivations.{StatesAt}
 use Rattle.book.specs.Contents.{Contents}
 use Rattle.book.specs.declared.kernel.NodeId.{NodeId}

@@ -1,6 +1,6 @@
-use Rattle.std.proofs.Common.{◌≡◌, ◌≤◌, ◌^◌, [], ◌∷◌, refl, sym, ◌∙◌, ap, subst, arith, Some}
+use Rattle.std.proofs.Common.{◌≤◌, ◌^◌, [], ◌∷◌, refl, ◌∙◌, ap, arith}
 use Rattle.std.proofs.lemmas.List.Elements.{All-nil}
-use Rattle.trees.specs.Judgements.{Context, WithVar, WithName, WithFace, trees}
+use Rattle.trees.specs.Judgements.{Context, WithName, trees}
 use Rattle.trees.specs.Trees.{Tree, Subst, apply, push}
 use Rattle.trees.specs.Language.{Tm, TmEq, Sb}
 use Rattle.trees.specs.Things.{ATree, ASubst, AContext}
@@ -13,7 +13,7 @@ use Rattle.book.specs.declared.kernel.NodeId.{NodeId}
 use Rattle.openings.specs.Statements.{open_plam, open_plam_statement}
 use Rattle.typed_nodes.specs.Calls.{MayCall}
 use Rattle.typed_nodes.specs.Typed.{Says}
-use Rattle.typed_nodes.proofs.StandLaws.{may_call, given}
+use Rattle.typed_nodes.proofs.StandLaws.{may_call}
 use Rattle.literal_terms.proofs.UnderLaws.{end_under, given_at, given_count, pathp_under, plam_under}
 use Rattle.literal_terms.proofs.under.path_under.Goals as goal
 
