@@ -1,18 +1,15 @@
 #!/usr/bin/env python3
 """Measures what the gate costs, crate by crate: processor minutes for code, for tests and for refused edits.
 
-usage: python3 bench/gate.py [--pid PID | WORD ..]
-
-Runs `rt ci` with these words (`--anew` for all from nothing, names of crates for these alone), or watches one that runs already,
-and reads from /proc twice a second what each prover under it has taken. A prover with `--test` proves tests; one in the copy that
-the run was started in proves code; one in a copy of its own tries an edit. Other work on the machine makes the minutes a little
-more than they are alone. The script needs Linux, Python 3 and `rt`.
+Runs `rt ci`, or watches one that runs already, and reads from /proc twice a second what each prover under it has taken. A prover
+with `--test` proves tests; one in a crate's folder proves code; one in a copy of its own tries an edit. Other work on the machine
+makes the minutes a little more than they are alone. The script needs Linux, Python 3 and `rt`.
 """
 
+import argparse
 import collections
 import os
 import subprocess
-import sys
 import time
 
 TICK = os.sysconf("SC_CLK_TCK")
@@ -61,7 +58,7 @@ def work_of(pid):
         folder = os.readlink(f"/proc/{pid}/cwd")
     except OSError:
         return None
-    return name, "code" if folder.endswith(f"/repo/crates/{name}") else "edits"
+    return name, "code" if folder.endswith(f"/crates/{name}") else "edits"
 
 
 def watch(root, running):
@@ -81,12 +78,13 @@ def watch(root, running):
 
 
 def main():
-    words = sys.argv[1:]
-    if words[:1] == ["--pid"]:
-        root = int(words[1])
+    asked = argparse.ArgumentParser(description=__doc__, formatter_class=argparse.RawDescriptionHelpFormatter)
+    asked.add_argument("--pid", type=int, help="the `rt ci` to watch")
+    root = asked.parse_args().pid
+    if root:
         whole = watch(root, lambda: os.path.exists(f"/proc/{root}"))
     else:
-        run = subprocess.Popen(["rt", "ci", *words])
+        run = subprocess.Popen(["rt", "ci"])
         whole = watch(run.pid, lambda: run.poll() is None)
     names = sorted({name for name, _ in whole})
     kinds = ["code", "tests", "edits"]
