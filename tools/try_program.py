@@ -27,6 +27,8 @@ CASES = {
     "no_words": (TWO, [], USAGE, 2),
     "after_dashes": (TWO, ["replay", "--", "{}"], YES, 0),
     "of_module": (TWO, ["replay", "{}", "--of", "none"], "no: MissingFile in none.ctt\n", 1),
+    "checked": ("", ["check", "First"], "yes: 2 definitions\n", 0),
+    "unchecked": ("", ["check", "data"], "no: MissingFile in data.ctt\n", 1),
 } | rule_cases.cases(1 if sys.argv[1:] == ["all"] else 10)
 
 
@@ -50,7 +52,9 @@ def ended(said):
 def main():
     with tempfile.TemporaryDirectory() as folder:
         lay_out(folder)
-        ran = subprocess.run(["rt", "try", "--cases", folder], cwd=ROOT / "crates" / "ctt",
+        module = f"First.ctt={ROOT / 'examples' / 'First.ctt'}"
+        ran = subprocess.run(["rt", "try", "--cases", folder, "--data", module],
+                             cwd=ROOT / "crates" / "ctt",
                              text=True, stdout=subprocess.PIPE, stderr=subprocess.STDOUT)
     wanted = {name: status for name, (_, _, _, status) in CASES.items()}
     found = ended(ran.stdout)

@@ -60,6 +60,29 @@ fn modules_are_answered(rt: HostRuntime) -> Result<(), Fail> {
     Ok(())
 }
 
+/// The names of two modules that define one, the first imported first, and what is printed of the
+/// module that imports both and uses it as a number.
+const IMPORTED: [(&str, &str, &str); 2] = [
+    ("Numbers", "Types", "no: RefusedForm at 43 in M.ctt\n"),
+    ("Types", "Numbers", "yes: 3 definitions\n"),
+];
+
+#[test]
+fn of_two_imports_the_later_hides_the_other(rt: HostRuntime) -> Result<(), Fail> {
+    for (first, second, wanted) in IMPORTED {
+        let mut files = MemFiles::new(rt.alloc(), &[])?;
+        files.put("Numbers.ctt", b"module Numbers where\nx : nat = zero\n")?;
+        files.put("Types.ctt", b"module Types where\nx : U = nat\n")?;
+        let module = format!(in rt.alloc();
+            "module M where\nimport {first}\nimport {second}\ny : nat = x\n"
+        )?;
+        files.put("M.ctt", module.as_bytes())?;
+        let found = printed(rt.alloc(), &mut files, &["check", "M"])?;
+        assert_eq!(rt; found.as_str(), wanted);
+    }
+    Ok(())
+}
+
 /// Functions of numbers, each of which uses the one before twice.
 fn chain(alloc: Global, count: u32) -> Result<String, AllocError> {
     let mut text = String::from_str(alloc, "f0 (x : nat) : nat = suc x")?;

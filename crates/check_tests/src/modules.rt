@@ -9,7 +9,7 @@ pub(crate) enum Is {
     Refused(u32),
 }
 
-pub(crate) const MODULES: [(&str, Is); 73] = [
+pub(crate) const MODULES: [(&str, Is); 80] = [
     ("a : nat = zero", Is::Direct(1, 2)),
     (
         "s : nat -> nat = \\(x : nat) -> suc x\none : nat = s zero",
@@ -196,6 +196,29 @@ pub(crate) const MODULES: [(&str, Is); 73] = [
     ("u : U = PathP (<i> nat) nat zero", Is::Refused(15)),
     ("u : U = (x : nat) * zero", Is::Refused(15)),
     ("l : nat = let a : nat = nat in zero", Is::Refused(15)),
+    // a built-in name that is hidden
+    (
+        "x : nat = let zero : nat = suc zero in zero",
+        Is::Direct(1, 4),
+    ),
+    // a definition within one within another
+    (
+        "f (n : nat) : nat =\n  let a : nat = b\n        where b : nat = n\n      \
+         c : nat = suc a\n  in c",
+        Is::Direct(1, 8),
+    ),
+    // a domain spelled by a definition, and one that has to be evaluated
+    (
+        "N : U = nat\nf : N -> nat = \\(x : nat) -> x",
+        Is::Direct(2, 4),
+    ),
+    (
+        "f : nat -> nat = \\(x : (\\(A : U) -> A) nat) -> x",
+        Is::Refused(15),
+    ),
+    ("u : U = PathP (<i> zero) zero zero", Is::Refused(15)),
+    ("u : U = PathP (<i> nat) zero nat", Is::Refused(15)),
+    ("t : nat = transport zero zero", Is::Refused(15)),
     (
         "f : nat = zero\n  where\n    y : nat = nat",
         Is::Refused(15),

@@ -53,6 +53,19 @@ const CASES: &[Case] = &[
         ],
         "4: 2",
     ),
+    // a star, of which one module is reached by two ways
+    (
+        &[
+            (
+                "a.ctt",
+                "module a where\nimport b\nimport c\nimport d\ny : nat = x",
+            ),
+            ("b.ctt", "module b where\nimport d\nz : nat = x"),
+            ("c.ctt", "module c where\nimport d"),
+            ("d.ctt", "module d where\nx : nat = zero"),
+        ],
+        "3: 0",
+    ),
     // what was loaded before is no more in scope than its names are reached
     (
         &[

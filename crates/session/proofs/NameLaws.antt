@@ -1,14 +1,10 @@
 -- Words that are names of modules.
 use Rattle.std.proofs.Common.{◌≡◌, ◌<◌, ◌≤◌, ◌⊎◌, inl, inr, ◌==◌, ◌&&◌, ℕ, Bool, true, false, List, [], ◌∷◌, length, get_or, sym, ◌∙◌, ap, refl, arith, Result, Ok, Err, IfOk}
-use denote.Enum.Bare.{sameb}
 use Rattle.std.specs.declared.alloc.AllocError.{AllocError}
 use Rattle.layout_lexer.specs.declared.token.Token.{Token}
 use Rattle.layout_lexer.specs.declared.fault.LexFault.{LexFault}
 use Rattle.layout_lexer.specs.Texts.{tokens_of}
-use Rattle.layout_lexer.specs.contracts.token.Kind.{the_type}
-use Rattle.layout_lexer.specs.declared.token.Kind.{Kind}
-use Rattle.layout_lexer.specs.declared.token.Kind.TheVariants as kind
-use Rattle.session.specs.Words.{is_module_name, is_only, is_identifier}
+use Rattle.session.specs.Words.{is_module_name, is_only, may_name}
 
 unfolding_name : (word : List ℕ) (r : Result (List Token) LexFault) → tokens_of word ≡ r → is_module_name word ≡ is_only (length word) r
 unfolding is_module_name
@@ -28,11 +24,6 @@ pub of_none : (word : List ℕ) (result : Result Bool AllocError) → result ≡
 of_none word (Ok b) e none = let same : b ≡ false = cc in same ∙ none
 of_none word (Err x) e none = cc
 
--- Kinds that are compared: which is that of a name.
-pub same_identifier : (k : Kind) → sameb the_type k kind.Identifier ≡ is_identifier k
-same_identifier kind.Identifier = refl
-same_identifier k = refl
-
 -- tests one after another
 pub and_chain : (a s e value result : Bool) → ((a ≡ true) × (value ≡ s)) ⊎ ((a ≡ false) × (value ≡ a)) → ((value ≡ true) × (result ≡ e)) ⊎ ((value ≡ false) × (result ≡ value)) → result ≡ (a && s && e)
 and_chain true true e value result (inl p) (inl q) = q.1
@@ -44,7 +35,7 @@ and_chain false s e value result (inl p) q = cc
 and_chain false s e value result (inr p) (inl q) = cc
 and_chain false s e value result (inr p) (inr q) = cc
 
-pub one_token : (word : List ℕ) (ts read : List Token) (d : Token) → tokens_of word ≡ Ok ts → read ≡ ts → 1 ≤ length read → length read < 2 → let t = get_or read 0 d in is_module_name word ≡ (is_identifier t.kind && (t.start == 0) && (t.end == length word))
+pub one_token : (word : List ℕ) (ts read : List Token) (d : Token) → tokens_of word ≡ Ok ts → read ≡ ts → 1 ≤ length read → length read < 2 → let t = get_or read 0 d in is_module_name word ≡ (may_name t.kind && (t.start == 0) && (t.end == length word))
 one_token word ts [] d e same l m = absurd (omega arith)
 one_token word ts (t ∷ []) d e same l m = unfolding_name word (Ok (t ∷ [])) (e ∙ ap Ok (sym same))
 one_token word ts (t ∷ u ∷ read) d e same l m = absurd (omega arith)

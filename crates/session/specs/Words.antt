@@ -6,7 +6,9 @@ use Rattle.std.specs.Option.{option_map, option_and_then}
 use Rattle.std.specs.Str.{bytes_eq}
 use Rattle.std.specs.declared.alloc.Global.{Global}
 use Rattle.layout_lexer.specs.declared.token.Kind.{Kind}
-use Rattle.layout_lexer.specs.declared.token.Kind.TheVariants.{Identifier}
+use Rattle.layout_lexer.specs.declared.token.Kind.TheVariants.{Identifier, Data, Hdata, Split}
+use Rattle.layout_lexer.specs.declared.token.Kind.TheVariants.{Mutual, Undefined, Opaque}
+use Rattle.layout_lexer.specs.declared.token.Kind.TheVariants.{Transparent, TransparentAll}
 use Rattle.layout_lexer.specs.declared.token.Token.{Token}
 use Rattle.layout_lexer.specs.declared.fault.LexFault.{LexFault}
 use Rattle.layout_lexer.specs.Texts.{tokens_of}
@@ -81,13 +83,21 @@ once [] = Some None
 once (word ∷ []) = Some (Some word)
 once (word ∷ other ∷ words) = None
 
--- is it an identifier, and no keyword?
-abbrev pub is_identifier : Kind → Bool
-is_identifier Identifier = true
-is_identifier kind = false
+-- Is it an identifier, and no keyword? Words that texts refuse are.
+abbrev pub may_name : Kind → Bool
+may_name Identifier = true
+may_name Data = true
+may_name Hdata = true
+may_name Split = true
+may_name Mutual = true
+may_name Undefined = true
+may_name Opaque = true
+may_name Transparent = true
+may_name TransparentAll = true
+may_name kind = false
 
 abbrev pub is_only : ℕ → Result (List Token) LexFault → Bool
-is_only end (Ok (t ∷ [])) = is_identifier t.kind && (t.start == 0) && (t.end == end)
+is_only end (Ok (t ∷ [])) = may_name t.kind && (t.start == 0) && (t.end == end)
 is_only end _ = false
 
 unfoldable pub is_module_name : List ℕ → Bool

@@ -189,7 +189,7 @@ fn other_words_are_no_command(rt: HostRuntime) -> Result<(), AllocError> {
         "replay --of M",
         "replay two.drv --of",
         "replay two.drv --of=",
-        "replay two.drv --of data",
+        "replay two.drv --of where",
         "replay two.drv --of M.ctt",
         "replay two.drv --of M --of M",
         "replay two.drv -- --of M",
@@ -198,7 +198,9 @@ fn other_words_are_no_command(rt: HostRuntime) -> Result<(), AllocError> {
         "check",
         "check M N",
         "check M.ctt",
-        "check data",
+        "check let",
+        "check a b",
+        "check ?",
         "check M --of N",
         "normal two one two three four five",
     ] {
@@ -209,15 +211,62 @@ fn other_words_are_no_command(rt: HostRuntime) -> Result<(), AllocError> {
 }
 
 #[test]
-fn two_dashes_make_every_later_word_positional(rt: HostRuntime) -> Result<(), AllocError> {
+fn files_and_modules_that_are_missing_are_named(rt: HostRuntime) -> Result<(), AllocError> {
     for (text, printed) in [
         ("replay -- -x", "no: MissingFile in -x\n"),
         ("replay -- --", "no: MissingFile in --\n"),
         ("replay - --", "no: MissingFile in -\n"),
         ("replay a.drv", "no: MissingFile in a.drv\n"),
+        // a word that texts refuse is no keyword
+        ("check data", "no: MissingFile in data.ctt\n"),
+        (
+            "replay --of=transparent_all two.drv",
+            "no: MissingFile in transparent_all.ctt\n",
+        ),
     ] {
         let words = words_of(rt.alloc(), text)?;
         assert_prints(&rt, rt.alloc(), &words, &sound(""), (printed, Status::No))?;
+    }
+    Ok(())
+}
+
+/// Rows that derive the type and the body of a definition, as nodes 5 and 10.
+const DERIVED: [&str; 11] = [
+    "rules 1",
+    "c nil",
+    "n ctx.nil",
+    "n nat.u 1 2",
+    "t nat",
+    "n ty.u 1 4 3",
+    "t zero",
+    "n zero 1 2",
+    "n suc 1 6 7",
+    "t suc 6",
+    "n suc 1 9 8",
+];
+
+/// Roots behind these rows, and what a replay for the module with that definition prints.
+const ROOTS: [(&str, &str); 6] = [
+    ("r 5\nr 10\n", "yes: 13 rows, 2 roots\n"),
+    ("r 10\nr 5\n", "no: root 0\n"),
+    ("r 5\nr 10\nr 5\n", "no: root 2\n"),
+    ("r 5\nr 5\nr 10\n", "no: root 1\n"),
+    ("r 5\n", "no: root 1\n"),
+    ("", "no: root 0\n"),
+];
+
+#[test]
+fn roots_are_compared_in_order(rt: HostRuntime) -> Result<(), AllocError> {
+    let rows = lines(rt.alloc(), &DERIVED)?;
+    let words = words_of(rt.alloc(), "replay two.drv --of M")?;
+    for (roots, printed) in ROOTS {
+        let text = format!(in rt.alloc(); "{rows}{roots}")?;
+        let place = Place {
+            module: "module M where\ntwo : nat = suc (suc zero)\n",
+            ..sound(text.as_str())
+        };
+        let prints = (printed, status_of(printed));
+        assert_prints(&rt, rt.alloc(), &words, &place, prints)?;
     }
     Ok(())
 }

@@ -3,7 +3,7 @@
 ghost use Rattle.std.specs.Prelude.{◌≡◌, IfOk, false};
 ghost use Rattle.std.specs.Option.{option_and_then, option_map};
 ghost use Rattle.session.specs.Words.{check_of, command, command_read, is_dashed, is_module_name};
-ghost use Rattle.session.specs.Words.{made_of, replay_of, sorted};
+ghost use Rattle.session.specs.Words.{made_of, may_name, replay_of, sorted};
 ghost use Rattle.session.specs.Words.{texts, word_of, word_read};
 ghost use Rattle.session.specs.Given.{Notes, given_of, once_each};
 
@@ -116,7 +116,26 @@ fn sort_words(words: &[String]) -> Option<Given<'_>>
     Some(given)
 }
 
-/// Whether a word is the name of a module: an identifier, and no keyword.
+/// Whether a token of this kind may be the name of a module: an identifier, and no keyword. A word
+/// that texts refuse may, though no text can import it.
+fn may_name(kind: Kind) -> bool
+    ensures { result ≡ may_name kind }
+{
+    matches!(
+        kind,
+        Kind::Identifier
+            | Kind::Data
+            | Kind::Hdata
+            | Kind::Split
+            | Kind::Mutual
+            | Kind::Undefined
+            | Kind::Opaque
+            | Kind::Transparent
+            | Kind::TransparentAll
+    )
+}
+
+/// Whether a word is the name of a module, and nothing else.
 fn is_module_name(alloc: Global, word: &str) -> Result<bool, AllocError>
     ensures { IfOk result (λ is. is ≡ is_module_name word.now) }
 {
@@ -126,9 +145,9 @@ fn is_module_name(alloc: Global, word: &str) -> Result<bool, AllocError>
         Err(_) => return Ok(false),
     };
     match tokens.as_slice() {
-        [token] => Ok(
-            token.kind == Kind::Identifier && token.start == 0 && token.end as usize == word.len(),
-        ),
+        [token] => {
+            Ok(may_name(token.kind) && token.start == 0 && token.end as usize == word.len())
+        }
         _ => Ok(false),
     }
 }

@@ -3,10 +3,10 @@ use Rattle.layout_lexer.specs.declared.token.Token.{Token}
 use Rattle.layout_lexer.specs.declared.fault.LexFault.TheVariants.{Memory}
 use Rattle.layout_lexer.specs.Texts.{tokens_of}
 use Rattle.layout_lexer.specs.declared.token.Kind.TheVariants.{Open}
-use Rattle.session.specs.Words.{is_identifier}
-use Rattle.session.proofs.NameLaws.{fault_is_none, few_or_many, of_none, same_identifier, and_chain, one_token}
+use Rattle.session.specs.Words.{may_name}
+use Rattle.session.proofs.NameLaws.{fault_is_none, few_or_many, of_none, and_chain, one_token}
 use Rattle.session.proofs.words.is_module_name.Goals as goal
-use Rattle.session.proofs.words.is_module_name.Goals.{in_default, in_default-2, then-token-eq0, else-token-eq0, then-eq, else-eq}
+use Rattle.session.proofs.words.is_module_name.Goals.{in_default, in_default-2, then-token-eq0, else-token-eq0, then-may_name, else-may_name}
 
 pub returns-in-Err : goal.returns-in-Err
 returns-in-Err c =
@@ -31,15 +31,15 @@ returns-in-len1 c =
     let t = get_or c.as_slice.result.now 0 d in
     let here : tokens_of word ≡ Ok c.in-Ok.tokens = ap tokens_of (sym c.as_bytes.ensures.value) ∙ c.in-Ok.ensures.ok in
     let named = one_token word c.in-Ok.tokens c.as_slice.result.now d here c.as_slice.ensures c.in-len1.len_at_least c.in-len1.len_below in
-    let is : c.eq.result ≡ is_identifier t.kind = c.eq.ensures ∙ same_identifier t.kind in
-    let first : ((is_identifier t.kind ≡ true) × (c.if-eq.value ≡ (t.start == 0))) ⊎ ((is_identifier t.kind ≡ false) × (c.if-eq.value ≡ is_identifier t.kind)) =
-    elim c.if-eq.branch [
-      | then-eq v ↦ inl (sym is ∙ v.if-eq.true, v.value-is)
-      | else-eq v ↦ inr (sym is ∙ v.if-eq.false, v.value-is ∙ is)
+    let is : c.may_name.result ≡ may_name t.kind = c.may_name.ensures in
+    let first : ((may_name t.kind ≡ true) × (c.if-may_name.value ≡ (t.start == 0))) ⊎ ((may_name t.kind ≡ false) × (c.if-may_name.value ≡ may_name t.kind)) =
+    elim c.if-may_name.branch [
+      | then-may_name v ↦ inl (sym is ∙ v.if-may_name.true, v.value-is)
+      | else-may_name v ↦ inr (sym is ∙ v.if-may_name.false, v.value-is ∙ is)
     ] in
-    let second : ((c.if-eq.value ≡ true) × (c.if-token-eq0.result ≡ (t.end == length word))) ⊎ ((c.if-eq.value ≡ false) × (c.if-token-eq0.result ≡ c.if-eq.value)) =
+    let second : ((c.if-may_name.value ≡ true) × (c.if-token-eq0.result ≡ (t.end == length word))) ⊎ ((c.if-may_name.value ≡ false) × (c.if-token-eq0.result ≡ c.if-may_name.value)) =
     elim c.if-token-eq0.branch [
       | then-token-eq0 w ↦ inl (w.if-token-eq0.true, w.result-is)
       | else-token-eq0 w ↦ inr (w.if-token-eq0.false, w.result-is)
     ] in
-    and_chain (is_identifier t.kind) (t.start == 0) (t.end == length word) c.if-eq.value c.if-token-eq0.result first second ∙ sym named
+    and_chain (may_name t.kind) (t.start == 0) (t.end == length word) c.if-may_name.value c.if-token-eq0.result first second ∙ sym named
