@@ -7,8 +7,9 @@ Each module of `examples` checks, to the bytes of the derivation that is stored 
 derivation replays as one of its module. In pages, a fenced block that begins with `$ ` is what a
 reader would see who types it, with the program as `ctt`: after each command stands what it prints.
 `$ cat FILE` writes the file where it isn't there yet. Of a command of `ctt` alone the status is the
-one that its line wants. Of tables, the texts in `docs/LANGUAGE.md` are answered as they say, or are
-read where they stand for a production, and the lines in `docs/FORMAT.md` are those of `two.drv`.
+one that its line wants. Of tables, the texts in `docs/LANGUAGE.md` that have an answer are answered
+so, or are read where they stand for a production, and the lines in `docs/FORMAT.md` are those of
+`two.drv`.
 `docs/CAUSES.md` has a heading for each cause of `session`.
 """
 import pathlib
@@ -117,9 +118,12 @@ def answered(program, text):
 def language(program):
     """What is wrong in the tables of docs/LANGUAGE.md: each text is answered so, or is read."""
     text = (ROOT / "docs/LANGUAGE.md").read_text()
-    for cells in table(text, "| Text | Answer | Why |"):
+    answers = ["| Text | Answer | Why |", "| Text | Answer | Mend it by |"]
+    for cells in (row for head in answers for row in table(text, head)):
         wanted = re.sub(r"^`(\w+)` at (\d+).*", r"no: \1 at \2 in m.ctt\n", cells[1])
-        printed = answered(program, f"module m where\n{cells[0].strip('`')}\n")
+        spelt, again = re.fullmatch(r"`(.*?)`(, and once more)?", cells[0]).groups()
+        lines = [spelt] * (2 if again else 1)
+        printed = answered(program, "\n".join(["module m where", *lines, ""]))
         if printed != wanted:
             yield f"{cells[0]} is answered by {printed!r}"
     for production, example in table(text, "| Production | Example |"):
