@@ -23,8 +23,6 @@ mod environments;
 mod heads;
 mod notes;
 mod substs;
-#[cfg(test)]
-mod tests;
 mod variables;
 
 pub use closure::Closure;

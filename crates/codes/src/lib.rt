@@ -11,6 +11,3 @@ mod formula;
 
 pub use code::{Binder, Code, CodeDef, Element, LineSide, Opened, PairSide, Side};
 pub use formula::{Equation, Formula};
-
-#[cfg(test)]
-mod tests;

@@ -23,6 +23,3 @@ mod walk;
 pub use comparison::Comparison;
 pub use pairs::{Pair, add_pair};
 pub use walk::all_agree;
-
-#[cfg(test)]
-mod tests;

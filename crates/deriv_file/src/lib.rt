@@ -24,6 +24,3 @@ pub use laws::laws_of_rows;
 pub use reader::{Next, RowReader};
 pub use row::{NEWEST, Row};
 pub use write::write_row;
-
-#[cfg(test)]
-mod tests;

@@ -7,6 +7,3 @@ mod formulas;
 mod names;
 
 pub use names::References;
-
-#[cfg(test)]
-mod tests;

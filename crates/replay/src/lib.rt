@@ -24,6 +24,3 @@ mod thing;
 
 pub use judged_rows::Rows;
 pub use judging::{Judged, Verdict, judge};
-
-#[cfg(test)]
-mod tests;

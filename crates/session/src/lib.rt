@@ -17,6 +17,3 @@ mod words;
 
 pub use outcome::{Status, answers_exclude_each_other};
 pub use top::run;
-
-#[cfg(test)]
-mod tests;

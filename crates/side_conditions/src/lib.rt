@@ -17,6 +17,3 @@ mod walk;
 
 pub use context_faces::ContextFaces;
 pub use deciding::SideConditions;
-
-#[cfg(test)]
-mod tests;

@@ -1,8 +1,8 @@
 //! Side conditions over contexts and trees that are written in postfix.
 
-use crate::{ContextFaces, SideConditions};
 use conditions::SideTest;
 use rows::{CtxId, CtxRow, Row, RowStore, SubId, SubRow, TermId, TermRow};
+use side_conditions::{ContextFaces, SideConditions};
 use std::alloc::Global;
 use std::process::Abort;
 use std::test::Fail;

@@ -1,6 +1,6 @@
 //! Codes by their forms.
 
-use crate::{Binder, Code, Element, Formula, Opened};
+use codes::{Binder, Code, Element, Formula, Opened};
 use layout_lexer::Span;
 use std::test::Fail;
 use syntax::Projections;

@@ -1,6 +1,6 @@
-// What is printed, with which status, over objects in memory.
-use super::*;
+//! What is printed, with which status, over objects in memory.
 use edge::{MemFiles, MemSink, MemSource};
+use session::{Status, answers_exclude_each_other, run};
 use std::alloc::{AllocError, Global};
 use std::process::Abort;
 

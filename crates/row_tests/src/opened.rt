@@ -4,7 +4,7 @@ ghost use Rattle.std.specs.Prelude.{◌≤◌, length};
 ghost use Rattle.rows.specs.Views.{IsTree};
 ghost use Rattle.rows.specs.Shown.{store_means};
 
-use crate::{Closure, Environments, Head, SubstClosure, SubstHead, head_of, kid, subst_head};
+use closures::{Closure, Environments, Head, SubstClosure, SubstHead, head_of, kid, subst_head};
 use rows::{Row, RowStore, SubId, SubRow, TermId, TermRow};
 use std::alloc::Global;
 use std::process::Abort;

@@ -1,7 +1,7 @@
 use Rattle.rows.specs.Shown.{store_means}
 use Rattle.closures.specs.Shown.{lists}
 use Rattle.closures.specs.Closures.{HeadStands}
-use Rattle.closures.proofs.tests.head_along.Given as goal
+use Rattle.row_tests.proofs.opened.head_along.Given as goal
 
 -- each kid on the way binds one variable at most
 abbrev pub invariant-loop-at : goal.invariant-loop-at

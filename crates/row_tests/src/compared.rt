@@ -5,7 +5,7 @@ ghost use Rattle.std.specs.Prelude.{IsSome, IsTrue};
 ghost use Rattle.trees.specs.Claimed.{claimed};
 ghost use Rattle.rows.specs.Shown.{store_means};
 
-use crate::Comparison;
+use compare::Comparison;
 use rows::{CtxId, CtxRow, Row, RowStore, SubId, SubRow, TermId, TermRow};
 use std::alloc::Global;
 use std::process::Abort;

@@ -1,8 +1,8 @@
 //! Names and formulas of a text.
 
-use crate::References;
 use codes::{Code, Formula};
 use layout_lexer::Span;
+use references::References;
 use scopes::{Binding, Place, Scope, ScopeNames};
 use std::test::Fail;
 use syntax::{End, Equation};

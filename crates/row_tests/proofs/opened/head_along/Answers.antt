@@ -8,9 +8,9 @@ use Rattle.closures.specs.Environments.{deepest}
 use Rattle.closures.specs.Closures.{IsClosure, HeadStands}
 use Rattle.trees.proofs.OperatorLaws.{binds_of-most}
 use Rattle.closures.proofs.HeadLaws.{row-stands, kid-stands, closure-deeper}
-use Rattle.closures.proofs.tests.head_along.Given as given
-use Rattle.closures.proofs.tests.head_along.Goals as goal
-use Rattle.closures.proofs.tests.head_along.Goals.{After-kid-closure}
+use Rattle.row_tests.proofs.opened.head_along.Given as given
+use Rattle.row_tests.proofs.opened.head_along.Goals as goal
+use Rattle.row_tests.proofs.opened.head_along.Goals.{After-kid-closure}
 
 pub loop-at-init : goal.loop-at-init
 loop-at-init g c =

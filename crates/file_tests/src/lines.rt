@@ -1,6 +1,6 @@
 //! The worked rows, lines that spell no row, and what is written.
 
-use crate::{Next, RowReader, write_row};
+use deriv_file::{Next, RowReader, write_row};
 use std::alloc::{AllocError, Global};
 use std::process::Abort;
 use std::test::Fail;

@@ -1,6 +1,6 @@
 //! Files whose rows are right, and files with a row that is not.
 
-use crate::{Judged, Verdict, judge};
+use replay::{Judged, Verdict, judge};
 use rows::{CtxId, CtxRow, Maker, Row, SubId, SubRow, TermId, TermRow};
 use std::alloc::{AllocError, Global};
 use std::test::Fail;
