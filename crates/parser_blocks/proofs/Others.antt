@@ -1,5 +1,5 @@
 -- What a step does at the tokens that it does not name.
-use Rattle.std.proofs.Common.{ℕ, ◌≡◌, ◌-◌, List, [], ◌∷◌, None, refl}
+use Rattle.std.proofs.Common.{ℕ, ◌≡◌, List, [], ◌∷◌, None, refl}
 use Rattle.layout_lexer.specs.declared.token.Kind.{Kind}
 use Rattle.layout_lexer.specs.declared.token.Kind.TheVariants as K
 use Rattle.layout_lexer.specs.declared.token.Span.{Span}

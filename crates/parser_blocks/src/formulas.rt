@@ -44,7 +44,7 @@ use syntax::{Exp, Formula};
 
 /// An operand that stands inside this frame.
 fn deeper(
-    spine: Spine,
+    spine: Box<Spine>,
     at: u32,
     frames: Vec<Inner>,
     frame: Inner,
@@ -54,7 +54,8 @@ fn deeper(
 ) -> Result<Parser, AllocError>
     ensures { IfOk result (λ x. view x
         ≡ record {
-          top = WantNeg (spine_of spine) at (inner_of frame ∷ inners_of frames.items) (room - 1);
+          top = WantNeg (spine_of spine.value) at (inner_of frame ∷ inners_of frames.items)
+              (room - 1);
           past = past;
           stack = stack_of stack.items;
         }) }
@@ -69,7 +70,7 @@ fn deeper(
 
 /// A token is an operand.
 fn operand(
-    spine: Spine,
+    spine: Box<Spine>,
     at: u32,
     frames: Vec<Inner>,
     room: u32,
@@ -80,7 +81,7 @@ fn operand(
 ) -> Parser
     ensures { view result
         ≡ record {
-          top = HaveNeg (spine_of spine) at (inners_of frames.items) room token.start
+          top = HaveNeg (spine_of spine.value) at (inners_of frames.items) room token.start
               (formula_of formula);
           past = begin_at room token.start token.end past;
           stack = stack_of stack.items;
@@ -100,7 +101,7 @@ fn operand(
 
 /// The start of an operand.
 pub fn neg(
-    spine: Spine,
+    spine: Box<Spine>,
     at: u32,
     frames: Vec<Inner>,
     room: u32,
@@ -109,7 +110,7 @@ pub fn neg(
     token: Token,
 ) -> Result<Parser, Stop>
     ensures { Gives view result
-        (on token (step_neg (spine_of spine) at (inners_of frames.items) room past
+        (on token (step_neg (spine_of spine.value) at (inners_of frames.items) room past
         (stack_of stack.items))) }
 {
     match token.kind {
@@ -244,7 +245,7 @@ fn enclosed(alloc: Global, frame: Inner, formula: Formula, past: Past) -> Result
 #[tactic(auto, using(crate::proofs::Forms::no_negation))]
 pub fn after_neg(
     alloc: Global,
-    spine: Spine,
+    spine: Box<Spine>,
     at: u32,
     mut frames: Vec<Inner>,
     operand: Operand,
@@ -253,7 +254,7 @@ pub fn after_neg(
     token: Token,
 ) -> Result<Parser, Stop>
     ensures { Gives view result
-        (on token (machine_after_neg (spine_of spine) at (inners_of frames.items) operand.room
+        (on token (machine_after_neg (spine_of spine.value) at (inners_of frames.items) operand.room
         operand.start (formula_of operand.formula) past (stack_of stack.items))) }
 {
     let mut operand = operand;
@@ -280,7 +281,7 @@ pub fn after_neg(
 #[tactic(auto, using(crate::proofs::Forms::neg_meets))]
 fn and(
     alloc: Global,
-    spine: Spine,
+    spine: Box<Spine>,
     at: u32,
     frames: Vec<Inner>,
     operand: Operand,
@@ -290,7 +291,7 @@ fn and(
 ) -> Result<Parser, Stop>
     requires { IsNoNegation (inners_of frames.items) }
     ensures { Gives view result
-        (on token (machine_after_neg (spine_of spine) at (inners_of frames.items) operand.room
+        (on token (machine_after_neg (spine_of spine.value) at (inners_of frames.items) operand.room
         operand.start (formula_of operand.formula) past (stack_of stack.items))) }
 {
     match token.kind {
@@ -307,7 +308,7 @@ fn and(
 #[tactic(auto, using(crate::proofs::Forms::no_operand))]
 fn after_conj(
     alloc: Global,
-    spine: Spine,
+    spine: Box<Spine>,
     at: u32,
     mut frames: Vec<Inner>,
     operand: Operand,
@@ -316,8 +317,8 @@ fn after_conj(
     token: Token,
 ) -> Result<Parser, Stop>
     ensures { Gives view result
-        (on token (machine_after_conj (spine_of spine) at (inners_of frames.items) operand.room
-        operand.start (formula_of operand.formula) past (stack_of stack.items))) }
+        (on token (machine_after_conj (spine_of spine.value) at (inners_of frames.items)
+        operand.room operand.start (formula_of operand.formula) past (stack_of stack.items))) }
 {
     let mut operand = operand;
     while let Some(frame) = frames.pop() {
@@ -351,7 +352,7 @@ fn after_conj(
 #[tactic(auto, using(crate::proofs::Forms::conj_joins))]
 fn or(
     alloc: Global,
-    spine: Spine,
+    spine: Box<Spine>,
     at: u32,
     frames: Vec<Inner>,
     operand: Operand,
@@ -361,8 +362,8 @@ fn or(
 ) -> Result<Parser, Stop>
     requires { IsNoOperand (inners_of frames.items) }
     ensures { Gives view result
-        (on token (machine_after_conj (spine_of spine) at (inners_of frames.items) operand.room
-        operand.start (formula_of operand.formula) past (stack_of stack.items))) }
+        (on token (machine_after_conj (spine_of spine.value) at (inners_of frames.items)
+        operand.room operand.start (formula_of operand.formula) past (stack_of stack.items))) }
 {
     match token.kind {
         Kind::Or => {
@@ -387,7 +388,7 @@ fn or(
 #[tactic(auto, using(crate::proofs::Forms::after_closed))]
 fn after_formula(
     alloc: Global,
-    spine: Spine,
+    spine: Box<Spine>,
     at: u32,
     mut frames: Vec<Inner>,
     formula: Formula,
@@ -396,7 +397,7 @@ fn after_formula(
     token: Token,
 ) -> Result<Parser, Stop>
     ensures { Gives view result
-        (on token (machine_after_formula (spine_of spine) at (inners_of frames.items)
+        (on token (machine_after_formula (spine_of spine.value) at (inners_of frames.items)
         (formula_of formula) past (stack_of stack.items))) }
 {
     let mut formula = formula;
@@ -414,7 +415,7 @@ fn after_formula(
 
 /// After a formula in brackets.
 fn parens(
-    spine: Spine,
+    spine: Box<Spine>,
     at: u32,
     frames: Vec<Inner>,
     room: u32,
@@ -425,7 +426,7 @@ fn parens(
     token: Token,
 ) -> Result<Parser, Stop>
     ensures { Gives view result
-        (on token (machine_after_formula (spine_of spine) at
+        (on token (machine_after_formula (spine_of spine.value) at
         (InParens room start ∷ inners_of frames.items) (formula_of formula) past
         (stack_of stack.items))) }
 {
@@ -450,7 +451,7 @@ fn parens(
 #[tactic(auto, using(crate::proofs::Forms::finish_closed))]
 pub fn finish_formula(
     alloc: Global,
-    spine: Spine,
+    spine: Box<Spine>,
     at: u32,
     mut frames: Vec<Inner>,
     formula: Formula,
@@ -458,7 +459,7 @@ pub fn finish_formula(
     stack: Vec<Frame>,
 ) -> Result<Exp, Stop>
     ensures { Gives tree_of result
-        (machine_finish (spine_of spine) at (inners_of frames.items) (formula_of formula) past
+        (machine_finish (spine_of spine.value) at (inners_of frames.items) (formula_of formula) past
         (stack_of stack.items)) }
 {
     let mut formula = formula;

@@ -203,47 +203,42 @@ pub fn exp(
 }
 
 /// The application in which the expression was put.
-pub fn put(alloc: Global, place: Place, exp: Exp) -> Result<Spine, AllocError>
-    ensures after { IfOk result (λ x. spine_of x ≡ place_after (place_of place) (tree_of exp)) }
-    ensures put { IfOk result (λ x. spined_of x ≡ put_in (place_of place) (tree_of exp)) }
+pub fn put(alloc: Global, place: Place, exp: Exp) -> Result<Box<Spine>, AllocError>
+    ensures after { IfOk result (λ x.
+        spine_of x.value ≡ place_after (place_of place) (tree_of exp)) }
+    ensures put { IfOk result (λ x.
+        spined_of x.value ≡ put_in (place_of place) (tree_of exp)) }
 {
     match place {
-        Place::Head(room, start) => Ok(Spine {
-            room,
-            next: room,
-            start,
-            head: exp,
-            elements: Elements::new(alloc),
-        }),
+        Place::Head(room, start) => Ok(Box::new(
+            alloc,
+            Spine {
+                room,
+                next: room,
+                start,
+                head: exp,
+                elements: Elements::new(alloc),
+            },
+        )?),
         Place::Element(spine) => Ok(with_element(spine, Element::Argument(exp))?),
     }
 }
 
-/// The application with one element more.
-fn with_element(spine: Spine, element: Element) -> Result<Spine, AllocError>
-    ensures { IfOk result (λ x. spine_of x ≡ place_after (spine_of spine) (element_of element)) }
+/// The application with one element more, in the same box.
+fn with_element(mut spine: Box<Spine>, element: Element) -> Result<Box<Spine>, AllocError>
+    ensures { IfOk result (λ x.
+        spine_of x.value ≡ place_after (spine_of spine.value) (element_of element)) }
 {
-    let Spine {
-        room,
-        next,
-        start,
-        head,
-        elements,
-    } = spine;
-    let elements = keep_element(elements, next, element)?;
-    Ok(Spine {
-        room,
-        next: next.saturating_sub(1),
-        start,
-        head,
-        elements,
-    })
+    let next = spine.next;
+    keep_element(&mut spine.elements, next, element)?;
+    spine.next = next.saturating_sub(1);
+    Ok(spine)
 }
 
 /// Puts `@` with its formula after the elements.
-pub fn put_at(spine: Spine, at: Span, formula: Formula) -> Result<Spine, AllocError>
+pub fn put_at(spine: Box<Spine>, at: Span, formula: Formula) -> Result<Box<Spine>, AllocError>
     ensures { IfOk result (λ x.
-        spined_of x ≡ put_in (spine_of spine) (an_at at (formula_of formula))) }
+        spined_of x.value ≡ put_in (spine_of spine.value) (an_at at (formula_of formula))) }
 {
     Ok(with_element(spine, Element::At(at, formula))?)
 }
@@ -255,23 +250,29 @@ pub fn give(alloc: Global, slot: Slot, exp: Exp, past: Past) -> Result<Given, Al
     match slot {
         Slot::Whole(place) => Ok(Given::Spined(put(alloc, place, exp)?)),
         Slot::First(FormWord::Pairing(word), start, place) => {
-            Ok(Given::Exp4(Slot::Second(word, start, exp, place)))
+            Ok(Given::Exp4(Slot::Second(word, start, Box::new(alloc, exp)?, place)))
         }
         Slot::First(FormWord::Gluing(word), start, place) => {
-            Ok(Given::System(Owner::Gluing(word, start, exp, place)))
+            Ok(Given::System(Owner::Gluing(word, start, Box::new(alloc, exp)?, place)))
         }
         Slot::Second(Pairing::Path, start, line, place) => {
-            Ok(Given::Exp4(Slot::Third(start, line, exp, place)))
+            Ok(Given::Exp4(Slot::Third(start, line, Box::new(alloc, exp)?, place)))
         }
         Slot::Second(Pairing::Composing(word), start, line, place) => {
-            Ok(Given::System(Owner::Composing(word, start, line, exp, place)))
+            Ok(Given::System(Owner::Composing(word, start, line, Box::new(alloc, exp)?, place)))
         }
         Slot::Second(Pairing::Transport, start, line, place) => {
-            let whole = Exp::transport(alloc, spanned(start, past), line, exp)?;
+            let whole = Exp::transport(alloc, spanned(start, past), Box::into_inner(line), exp)?;
             Ok(Given::Spined(put(alloc, place, whole)?))
         }
         Slot::Third(start, line, left, place) => {
-            let whole = Exp::path_type(alloc, spanned(start, past), line, left, exp)?;
+            let whole = Exp::path_type(
+                alloc,
+                spanned(start, past),
+                Box::into_inner(line),
+                Box::into_inner(left),
+                exp,
+            )?;
             Ok(Given::Spined(put(alloc, place, whole)?))
         }
     }
@@ -312,25 +313,44 @@ fn glued(
 }
 
 /// Puts the form that a system ends into its place.
-pub fn owned(alloc: Global, owner: Owner, sides: Sides, past: Past) -> Result<Spine, AllocError>
-    ensures { IfOk result (λ x. spined_of x ≡ owned_by (owner_of owner) (sides_of sides) past) }
+pub fn owned(
+    alloc: Global,
+    owner: Owner,
+    sides: Sides,
+    past: Past,
+) -> Result<Box<Spine>, AllocError>
+    ensures { IfOk result (λ x.
+        spined_of x.value ≡ owned_by (owner_of owner) (sides_of sides) past) }
 {
     match owner {
         Owner::Composing(word, start, line, base, place) => {
-            let whole = composed(alloc, word, spanned(start, past), line, base, sides)?;
+            let whole = composed(
+                alloc,
+                word,
+                spanned(start, past),
+                Box::into_inner(line),
+                Box::into_inner(base),
+                sides,
+            )?;
             Ok(put(alloc, place, whole)?)
         }
         Owner::Gluing(word, start, base, place) => {
-            let whole = glued(alloc, word, spanned(start, past), base, sides)?;
+            let whole = glued(
+                alloc,
+                word,
+                spanned(start, past),
+                Box::into_inner(base),
+                sides,
+            )?;
             Ok(put(alloc, place, whole)?)
         }
     }
 }
 
 /// An application, or its head alone.
-pub fn applied(alloc: Global, spine: Spine, past: Past) -> Result<Exp, AllocError>
-    ensures { IfOk result (λ e. tree_of e ≡ applied_to (from_start spine.start past)
-        (tree_of spine.head) (elements_of spine.elements)) }
+pub fn applied(alloc: Global, spine: Box<Spine>, past: Past) -> Result<Exp, AllocError>
+    ensures { IfOk result (λ e. tree_of e ≡ applied_to (from_start spine.value.start past)
+        (tree_of spine.value.head) (elements_of spine.value.elements)) }
 {
     let Spine {
         room: _room,
@@ -338,7 +358,7 @@ pub fn applied(alloc: Global, spine: Spine, past: Past) -> Result<Exp, AllocErro
         start,
         head,
         elements,
-    } = spine;
+    } = Box::into_inner(spine);
     if elements.as_slice().is_empty() {
         return Ok(head);
     }
@@ -348,13 +368,13 @@ pub fn applied(alloc: Global, spine: Spine, past: Past) -> Result<Exp, AllocErro
 /// After an expression of an application.
 pub fn spined(
     alloc: Global,
-    spine: Spine,
+    spine: Box<Spine>,
     past: Past,
     stack: Vec<Frame>,
     token: Token,
 ) -> Result<Parser, Stop>
     ensures { Gives view result
-        (on token (step_given (spined_of spine) past (stack_of stack.items))) }
+        (on token (step_given (spined_of spine.value) past (stack_of stack.items))) }
 {
     match token.kind {
         Kind::At => {

@@ -92,13 +92,13 @@ spined_of x = M.Spined x.room x.next x.start (tree_of x.head) (elements_of x.ele
 
 abbrev pub place_of : Place → M.Place
 place_of (PL.Head r s) = M.Head r s
-place_of (PL.Element x) = spine_of x
+place_of (PL.Element x) = spine_of x.value
 
 abbrev pub slot_of : Slot → M.Slot
 slot_of (SL.Whole pl) = M.Whole (place_of pl)
 slot_of (SL.First w s pl) = M.FirstOf (form_word_of w) s (place_of pl)
-slot_of (SL.Second w s x pl) = M.SecondOf (pairing_of w) s (tree_of x) (place_of pl)
-slot_of (SL.Third s x y pl) = M.ThirdOf s (tree_of x) (tree_of y) (place_of pl)
+slot_of (SL.Second w s x pl) = M.SecondOf (pairing_of w) s (tree_of x.value) (place_of pl)
+slot_of (SL.Third s x y pl) = M.ThirdOf s (tree_of x.value) (tree_of y.value) (place_of pl)
 
 abbrev pub held_of : HeldSlot → M.Slot
 held_of (HS.Head r s) = M.Whole (M.Head r s)
@@ -106,11 +106,11 @@ held_of (HS.Other b) = slot_of b.value
 
 abbrev pub owner_of : Owner → M.Owner
 owner_of (O.Composing w s x y pl) =
-    M.OfComposing (composing_of w) s (tree_of x) (tree_of y) (place_of pl)
-owner_of (O.Gluing w s x pl) = M.OfGluing (gluing_of w) s (tree_of x) (place_of pl)
+    M.OfComposing (composing_of w) s (tree_of x.value) (tree_of y.value) (place_of pl)
+owner_of (O.Gluing w s x pl) = M.OfGluing (gluing_of w) s (tree_of x.value) (place_of pl)
 
 abbrev pub given_of : Given → M.Top
-given_of (GV.Spined x) = spined_of x
+given_of (GV.Spined x) = spined_of x.value
 given_of (GV.Exp4 slot) = M.WantExp4 (slot_of slot)
 given_of (GV.System o) = M.WantSystem (owner_of o)
 
@@ -222,8 +222,8 @@ top_of (T.Opened r i) = M.Opened r i
 top_of (T.Maybe r i ns rn pl n d) = M.Maybe r i ns rn (place_of pl) n d
 top_of (T.Projected slot rn i x hs) = M.Projected (slot_of slot) rn i (tree_of x) hs
 top_of (T.Given t) = given_of t
-top_of (T.Neg x i fs r) = M.WantNeg (spine_of x) i (inners_of fs.items) r
-top_of (T.HaveNeg x i fs f) = have_neg x i fs.items f
+top_of (T.Neg x i fs r) = M.WantNeg (spine_of x.value) i (inners_of fs.items) r
+top_of (T.HaveNeg x i fs f) = have_neg x.value i fs.items f
 top_of (T.System t) = system_of t
 
 abbrev pub view : Parser → M.State

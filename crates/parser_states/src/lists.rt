@@ -1,7 +1,7 @@
 //! What stands too deep is no part of a tree, so that no tree is deep: lists leave it out, and
 //! elsewhere a name at 0 stands in its place.
 
-ghost use Rattle.std.specs.Prelude.{◌≡◌, ◌∷◌, [], ◌++◌, IfOk};
+ghost use Rattle.std.specs.Prelude.{◌≡◌, ◌∷◌, [], ◌++◌, IfOk, OnErr, OnOk};
 ghost use Rattle.syntax.specs.View.{
   tree_of,
   exps_of,
@@ -85,20 +85,17 @@ pub fn keep_exp(mut exps: Exps, room: u32, exp: Exp) -> Result<Exps, AllocError>
     Ok(exps)
 }
 
-/// The list with one element more, which stands at this room.
-pub fn keep_element(
-    mut elements: Elements,
-    room: u32,
-    element: Element,
-) -> Result<Elements, AllocError>
-    ensures { IfOk result (λ xs.
-        elements_of xs ≡ keep_last room (elements_of elements) (element_of element)) }
+/// Appends an element that stands at this room. Without memory the list is as before.
+pub fn keep_element(elements: &mut Elements, room: u32, element: Element) -> Result<(), AllocError>
+    ensures ok { OnOk result (elements_of elements.new
+        ≡ keep_last room (elements_of elements.old) (element_of element)) }
+    ensures err { OnErr result (elements_of elements.new ≡ elements_of elements.old) }
 {
     if room == 0 {
-        return Ok(elements);
+        return Ok(());
     }
     elements.push(element)?;
-    Ok(elements)
+    Ok(())
 }
 
 /// The list with one tele more, which stands at this room.

@@ -12,7 +12,8 @@ use productions::Past;
 use std::alloc::{AllocError, AllocFailed};
 use syntax::{Defs, Elements, Equations, Exp, Exps, Formula, Module, Projections, Sides, Teles};
 
-/// An application so far: an expression, and the elements after it.
+/// An application so far: an expression, and the elements after it. States hold it in a box, since
+/// what a step costs is the size of the states that it moves.
 #[derive(Drop)]
 pub struct Spine {
     pub room: u32,
@@ -27,7 +28,7 @@ pub struct Spine {
 #[derive(Drop)]
 pub enum Place {
     Head(u32, u32),
-    Element(Spine),
+    Element(Box<Spine>),
 }
 
 /// Where an expression with its projections stands: in an application, or as an argument of a form
@@ -36,8 +37,8 @@ pub enum Place {
 pub enum Slot {
     Whole(Place),
     First(FormWord, u32, Place),
-    Second(Pairing, u32, Exp, Place),
-    Third(u32, Exp, Exp, Place),
+    Second(Pairing, u32, Box<Exp>, Place),
+    Third(u32, Box<Exp>, Box<Exp>, Place),
 }
 
 /// A slot in few bytes, so that deep texts take little memory.
@@ -50,15 +51,15 @@ pub enum HeldSlot {
 /// The form that a system ends, which began at a start.
 #[derive(Drop)]
 pub enum Owner {
-    Composing(Composing, u32, Exp, Exp, Place),
-    Gluing(Gluing, u32, Exp, Place),
+    Composing(Composing, u32, Box<Exp>, Box<Exp>, Place),
+    Gluing(Gluing, u32, Box<Exp>, Place),
 }
 
 /// What comes after an expression that was put into its place.
 #[derive(Drop)]
 pub enum Given {
     /// More of the application.
-    Spined(Spine),
+    Spined(Box<Spine>),
     /// An argument of a form.
     Exp4(Slot),
     /// The system of a form.
@@ -220,8 +221,8 @@ pub enum Top {
     Projected(Slot, u32, u32, Exp, Projections),
     Given(Given),
     /// After a sign `@` at a start, or inside its formula.
-    Neg(Spine, u32, Vec<Inner>, u32),
-    HaveNeg(Spine, u32, Vec<Inner>, Operand),
+    Neg(Box<Spine>, u32, Vec<Inner>, u32),
+    HaveNeg(Box<Spine>, u32, Vec<Inner>, Operand),
     System(System),
 }
 

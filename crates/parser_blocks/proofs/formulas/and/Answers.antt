@@ -8,5 +8,5 @@ returns-in_default c =
     let a = c.args in
     let f = c.args.operand in
     let t = c.args.token in
-    rw (neg_other (spine_of a.spine) a.at (inners_of a.frames.items) f.room f.start (formula_of f.formula) a.past (stack_of a.stack.items) t.start t.end t.kind c.in_default.not-And c.requires)
+    rw (neg_other (spine_of a.spine.value) a.at (inners_of a.frames.items) f.room f.start (formula_of f.formula) a.past (stack_of a.stack.items) t.start t.end t.kind c.in_default.not-And c.requires)
     c.after_conj.ensures
