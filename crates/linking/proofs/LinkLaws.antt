@@ -1,9 +1,11 @@
 -- One module after another.
 use Rattle.std.proofs.Common.{◌≡◌, ◌<◌, ◌≤◌, ◌+◌, ℕ, zero, suc, Bool, List, [], ◌∷◌, ◌++◌, map, length, take, reverse, get_or, bytes_eq, refl, sym, ◌∙◌, ap, subst, arith, append_assoc, None}
-use Rattle.std.specs.List.{All, flat_map, list_any}
+use Rattle.std.specs.List.{All, AllZip, flat_map, list_any}
 use Rattle.std.proofs.lemmas.List.{reverse-append, length-append, length-map, length-reverse}
 use Rattle.std.proofs.lemmas.List.Concat.{flat_map-append}
-use Rattle.syntax.specs.View.{module_of}
+use Rattle.syntax.specs.declared.exp.Def.{Def}
+use Rattle.syntax.specs.View.{module_of, def_of, tree_list}
+use Rattle.syntax.proofs.Rows.{defs_of_items}
 use Rattle.trees.specs.Judgements.{Judgement}
 use Rattle.translation.specs.declared.fault.ScopeFault.{ScopeFault}
 use Rattle.translation.specs.Scopes.{Scope, context_of}
@@ -12,19 +14,21 @@ use Rattle.translation.specs.Names.{Word}
 use Rattle.translation.specs.Texts.{Written, block}
 use Rattle.codes.specs.declared.code.CodeDef.{CodeDef, out-CodeDef}
 use Rattle.codes.specs.Codes.{body_of, definition, definitions}
+use Rattle.codes.specs.Shapes.{def_shape, listed}
 use Rattle.codes.proofs.Logs.{append_empty, judgements_append, map_append, then_assoc, then_same}
 use Rattle.scopes.specs.declared.scope.Scope.{Scope as ScopeOf}
 use Rattle.scopes.specs.declared.scope.ScopeName.{ScopeName}
 use Rattle.scopes.specs.Steps.{count_from}
 use Rattle.scopes.proofs.Moving.{count_append}
+use Rattle.readings.specs.Shaped.{Become, IsDef}
 use Rattle.module_texts.specs.declared.text.ModuleText.{ModuleText}
 use Rattle.module_texts.specs.Texts.{name_of, imports_of}
 use Rattle.resolver.specs.declared.resolving.Codes.{Codes}
-use Rattle.resolver.specs.Resolved.{AreCodes, AreEarlier, Holds, IsFaultOf, IsTop, Leaves, bound_as, bound_by, entry, words, defs_in as codes_in}
+use Rattle.resolver.specs.Resolved.{AreCodes, AreEarlier, AreSpelt, Holds, IsFaultOf, IsTop, Leaves, bound_as, bound_by, entry, words, defs_in as codes_in}
 use Rattle.resolver.proofs.Leaving.{words_append, words_kept}
 use Rattle.linking.specs.declared.known.Known.{Known as Kept}
 use Rattle.linking.specs.declared.linked.Linker.{Linker}
-use Rattle.linking.specs.Modules.{Known, AreFine, RefusedFirst, and_known, defs_in, judgements, known_as, meaning_after, meanings, meanings_after, names_in, reached}
+use Rattle.linking.specs.Modules.{Known, AreFine, RefusedFirst, and_known, defs_in, judgements, known_as, meaning_after, meanings, meanings_after, names_in, reached, read_defs}
 use Rattle.linking.specs.Reaching.{Stand, Sees, are_among, names_of}
 use Rattle.linking.specs.Linked.{HasLinked, IsLinked, Keeps, known_after, meaning_of_next}
 use Rattle.linking.proofs.ReachLaws.{all_append, all_one, names_push}
@@ -45,6 +49,27 @@ named_more : {A B C : Type 0} (f : A → B) (g : C → List B) (ls rs all : List
 named_more f g ls rs all cs c is before here =
     ap (map f) is ∙ map_append f ls rs ∙ ap (λ ns. ns ++ map f rs) before ∙ ap (λ ns. flat_map g cs ++ ns) (here ∙ sym (append_empty (g c)))
     ∙ sym (flat_map-append g cs (c ∷ []))
+
+each_spelt : (ds : List Def) (cs : List CodeDef) → Become (tree_list def_of ds) (listed def_shape cs) → AllZip IsDef ds cs
+each_spelt [] [] h = tt
+each_spelt [] (c ∷ cs) h = absurd h
+each_spelt (d ∷ ds) [] h = absurd h
+each_spelt (d ∷ ds) (c ∷ cs) h = (record { becomes = h.0 }, each_spelt ds cs h.1)
+
+zip_append : {A B : Type 0} (R : A → B → Type 0) (xs vs : List A) (ys ws : List B) → AllZip R xs ys → AllZip R vs ws → AllZip R (xs ++ vs) (ys ++ ws)
+zip_append R [] vs [] ws h k = k
+zip_append R [] vs (y ∷ ys) ws h k = absurd h
+zip_append R (x ∷ xs) vs [] ws h k = absurd h
+zip_append R (x ∷ xs) vs (y ∷ ys) ws h k = (h.0, zip_append R xs vs ys ws h.1 k)
+
+spelt_more : (before : List ModuleText) (x : ModuleText) (cs all : List CodeDef) (codes : Codes) → all ≡ cs ++ codes_in codes → AllZip IsDef (flat_map read_defs before) cs
+    → AreSpelt (module_of x.module) codes → AllZip IsDef (flat_map read_defs (before ++ x ∷ [])) all
+spelt_more before x cs all codes is h k =
+    let here = each_spelt (read_defs x) (codes_in codes) (subst (λ ds. Become ds (listed def_shape (codes_in codes))) (defs_of_items x.module.defs) k) in
+    let texts : flat_map read_defs (before ++ x ∷ []) ≡ flat_map read_defs before ++ read_defs x =
+    flat_map-append read_defs before (x ∷ []) ∙ ap (λ ds. flat_map read_defs before ++ ds) (append_empty (read_defs x)) in
+    subst (λ ds. AllZip IsDef ds all) (sym texts)
+    (subst (AllZip IsDef (flat_map read_defs before ++ read_defs x)) (sym is) (zip_append IsDef (flat_map read_defs before) (read_defs x) cs (codes_in codes) h here))
 
 known_more : (known : List Known) (xs : List ModuleText) (x : ModuleText) → known_after known (xs ++ x ∷ []) ≡ and_known (known_after known xs) x
 known_more known [] x = refl
@@ -84,6 +109,7 @@ starts s none next known = record {
   linked = record {
     fine = λ k d l. absurd (omega arith);
     judgements_are = ap (λ cs. judgements_of (definitions cs []).stated) none;
+    spelt = subst (AllZip IsDef []) (sym none) tt;
     named = ap (map (λ c. (out-CodeDef c).name)) none;
     numbered = ap (λ cs. map (λ (d : Stated ℕ). d.name) (definitions cs []).stated) none ∙ sym (ap (λ cs. count_from (length (definitions cs []).stated) 0) none);
     next_is = next ∙ sym (ap (λ cs. length (definitions cs []).stated) none);
@@ -118,7 +144,7 @@ module _ (before : List ModuleText) (x : ModuleText) (s : Linker) (h : HasLinked
     pub refused_next : (fault : ScopeFault) → IsFaultOf x.bytes.items scope.names (module_of x.module) fault → Refuses fault (meaning_of_next before x).refusal
     refused_next fault is = subst (λ m. Refuses fault m.refusal) is_meaning (is (definitions (codes_in s.codes) []).value h.top)
 
-    module _ (codes : Codes) (new : Linker) (resolved : AreCodes x.bytes.items scope.names scope.next (module_of x.module) codes) (kept : Keeps x flags codes s new) where
+    module _ (codes : Codes) (new : Linker) (resolved : AreCodes x.bytes.items scope.names scope.next (module_of x.module) codes) (shaped : AreSpelt (module_of x.module) codes) (kept : Keeps x flags codes s new) where
       first : Translated ℕ (Scope ℕ)
       first = definitions (codes_in s.codes) []
 
@@ -168,6 +194,7 @@ module _ (before : List ModuleText) (x : ModuleText) (s : Linker) (h : HasLinked
             ∙ ap (λ js. js ++ judgements_of second.stated) h.linked.judgements_are
             ∙ ap (λ js. judgements before ++ js) (holds.judgements ∙ ap (λ m. judgements_of m.stated) is_meaning)
             ∙ sym judgements_more;
+        spelt = spelt_more before x (codes_in s.codes) (codes_in new.codes) codes kept.defs_are h.linked.spelt shaped;
         named = named_more (λ c. (out-CodeDef c).name) names_in (codes_in s.codes) (codes_in codes) (codes_in new.codes) before x kept.defs_are h.linked.named resolved.named;
         numbered =
             let together = length-append first.stated second.stated in

@@ -3,7 +3,8 @@ use Rattle.std.specs.Prelude.{◌≡◌, ◌<◌, ◌++◌, ℕ, List, [], ◌�
 use Rattle.std.specs.Prelude.{if◌then◌else◌, None}
 use Rattle.std.specs.List.{All, flat_map, list_any}
 use Rattle.layout_lexer.specs.declared.token.Span.{Span}
-use Rattle.syntax.specs.View.{module_of}
+use Rattle.syntax.specs.declared.exp.Def.{Def}
+use Rattle.syntax.specs.View.{module_of, def_items}
 use Rattle.trees.specs.Judgements.{Judgement}
 use Rattle.translation.specs.declared.fault.ScopeFault.{ScopeFault}
 use Rattle.translation.specs.Scopes.{Scope}
@@ -30,6 +31,10 @@ reached (m ∷ before) names =
 
 abbrev pub defs_in : ModuleText → List Written
 defs_in x = defs_of_module x.bytes.items (module_of x.module)
+
+-- the same as they were read
+abbrev pub read_defs : ModuleText → List Def
+read_defs x = def_items x.module.defs
 
 -- where a module names them
 abbrev pub names_in : ModuleText → List Span
