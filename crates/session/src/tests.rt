@@ -1,4 +1,5 @@
-// What is printed, with which status, over objects in memory.
+//! What is printed, with which status, over objects in memory.
+
 use super::*;
 use edge::{MemFiles, MemSink, MemSource};
 use std::alloc::{AllocError, Global};
