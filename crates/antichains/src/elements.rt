@@ -1,4 +1,5 @@
-// What products are made of.
+//! What products are made of.
+
 ghost use Rattle.std.specs.Prelude.{◌≡◌};
 ghost use Rattle.std.specs.declared.cmp.Ordering.TheVariants.{Equal};
 

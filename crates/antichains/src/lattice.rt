@@ -1,4 +1,5 @@
-// What has a meet and a join.
+//! What has a meet and a join.
+
 ghost use Rattle.std.specs.Prelude.{◌≡◌, IfOk};
 
 use std::alloc::AllocError;

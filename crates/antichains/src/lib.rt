@@ -7,6 +7,13 @@
 //!
 //! What is made of such sums is a `Lattice`, and a `Stack` of it takes a tree one operator at a
 //! time.
+//!
+//! ```text
+//! let a = Product::single(alloc, A)?;                           // of elements A < B
+//! let ab = a.merged(&Product::single(alloc, B)?)?;
+//! let sum = Antichain::from_products(vec![in alloc; a, ab]?)?;
+//! sum.products()                                                // a alone, which is within ab
+//! ```
 #![tactic(auto)]
 
 pub mod elements;

@@ -1,4 +1,5 @@
-// Strictly sorted slices, read as finite sets.
+//! Strictly sorted slices, read as finite sets.
+
 ghost use Rattle.std.specs.Prelude.{◌≡◌, ◌↔◌, Contains, IsTrue, IfOk};
 ghost use Rattle.std.specs.List.Sorted.{IsStrictlySortedBy};
 ghost use Rattle.antichains.specs.Antichains.{IsWithin, IsUnion, IsWithout};

@@ -1,4 +1,5 @@
-// Stacks for a walk of a tree that comes to an operator after its kids.
+//! Stacks for a walk of a tree that comes to an operator after its kids.
+
 ghost use Rattle.std.specs.Prelude.{◌≡◌, ◌↔◌, ◌<◌, ◌≤◌, ◌∷◌, [], IsTrue, OnOk, OnErr, drop, length};
 ghost use Rattle.antichains.specs.Stacks.{worths_at, after_two};
 

@@ -1,4 +1,5 @@
-// Sums of products in normal form.
+//! Sums of products in normal form.
+
 ghost use Rattle.std.specs.Prelude.{◌≡◌, ◌↔◌, ◌⊎◌, ◌&&◌, ◌||◌, [], List, Any};
 ghost use Rattle.std.specs.Prelude.{Contains, Bool, IsTrue, IfOk, length};
 ghost use Rattle.std.specs.List.Sorted.{IsNonDecreasingBy};

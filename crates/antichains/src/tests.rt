@@ -1,4 +1,5 @@
-// Sums written as text: each product as a `+` and its letters.
+//! Sums written as text: each product as a `+` and its letters.
+
 use super::*;
 use std::alloc::{AllocError, Global};
 use std::process::Abort;

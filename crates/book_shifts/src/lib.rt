@@ -1,4 +1,10 @@
 //! How far the substitutions of a book shift.
+//!
+//! ```text
+//! // up then up : [].nat.nat to [] is what a node of the book concludes
+//! laws_of_shifts(&book);
+//! // its shift, 2, and the two entries of [].nat.nat are no more than 2^48, as in any book
+//! ```
 #![tactic(auto)]
 
 ghost use Rattle.std.specs.Prelude.{◌≡◌, ◌≤◌, ◌^◌, ℕ, Some};

@@ -1,4 +1,11 @@
 //! Derivations over books that are written as files, and what the judge says of them.
+//!
+//! ```text
+//! two_is_derived();
+//! let numbers = given(&mut book, TWO, TWO_GIVES)?;     // [] >> nat; [] >> suc (suc zero) : nat
+//! let roots = nodes_of(alloc, numbers.as_slice())?;
+//! judged(alloc, &book, roots.as_slice())?              // Verdict::Yes { rows: 13, roots: 2 }
+//! ```
 #![tactic(auto)]
 
 ghost use Rattle.recipes.specs.Derivations.{Derives};

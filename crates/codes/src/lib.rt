@@ -3,6 +3,13 @@
 //!
 //! `specs/Codes` says which tree a code means. A definition stays a number where it is used, so no
 //! body is copied.
+//!
+//! ```text
+//! // \(x : nat) -> suc x, where the binder has one name and the type Code::Nat
+//! let x = Code::Bound { span, index: 0 };
+//! let body = Code::suc(alloc, span, x)?;
+//! Code::lambda(alloc, span, binders, body)?    // it means `lam nat (suc (var 0))`
+//! ```
 #![tactic(auto)]
 
 mod code;

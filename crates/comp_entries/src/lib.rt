@@ -1,4 +1,9 @@
 //! What stands behind the conclusions of the rules of systems and composition.
+//!
+//! ```text
+//! comp_entry(CompRule::CompZero, Label::Right)
+//! // G >> zero : nat, behind G >> comp nat p zero zero = zero : nat: from premise 0, ctx G
+//! ```
 #![tactic(auto)]
 
 /// The rows of a table, each on a line of its own however long.

@@ -3,6 +3,13 @@
 //!
 //! The definitions stand in `specs/Sides`. Nothing here runs: a side test names what is asked, and
 //! the laws are contracts.
+//!
+//! ```text
+//! // over `[].I`, of whose name i nothing is told
+//! laws_of_sides();
+//! // `max i (neg i)` is not of one value with `i1`, and `(i = 0) or (i = 1)` does not hold
+//! SideTest::Holds(ctx, face)           // asks of rows whether the face holds in the context
+//! ```
 #![tactic(auto)]
 
 mod laws;

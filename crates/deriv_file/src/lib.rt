@@ -8,6 +8,13 @@
 //! For example `rules 1`, `c nil`, `n ctx.nil` and `r 2`, each with its newline, are a file of four
 //! rows: the header, the empty context, the node that says that this is a context, and that node as
 //! a root.
+//!
+//! ```text
+//! let mut reader = RowReader::new(b"rules 1\nc nil\nn ctx.nil\nr 2\n");
+//! reader.next(alloc)?                          // Next::Row(Row::Header(1)), then the other three
+//! let mut other = RowReader::new(b"rules 01\n");
+//! other.next(alloc)?                           // Next::BadSpelling(0)
+//! ```
 #![tactic(auto)]
 
 mod ids;

@@ -4,8 +4,10 @@
 //! Nothing here runs: the functions have the laws of the definitions as their contracts, so that a
 //! check proves each.
 //!
-//! For example the file of the rows `rules 1`, `c nil`, `n ctx.nil` and `r 2` is right, and derives
-//! one judgement, that the empty context is one.
+//! ```text
+//! rules 1; c nil; n ctx.nil; r 2       AllRight, and Derives 4 (`ctx []` alone)
+//! rules 1; c nil; n ctx.nil; r 1       FirstBad 3, since row 1 concludes nothing
+//! ```
 #![tactic(auto)]
 
 ghost use Rattle.std.specs.Prelude.{◌≡◌, ℕ, ◌<◌, ◌≤◌, List, [], ◌∷◌, ◌++◌, length, All, Some};

@@ -3,6 +3,12 @@
 //!
 //! A checker that evaluates accepts more. It accepts each direct code, and evaluates nothing for
 //! it.
+//!
+//! ```text
+//! \(x : nat) -> suc x  :  nat -> nat                   direct: it is inferred to have this type
+//! <i> zero  :  PathP (<i> nat) zero zero               direct: checked, since its ends are zero
+//! <i> zero  :  PathP (<i> nat) zero (suc zero)         not direct
+//! ```
 #![tactic(auto)]
 
 mod laws;

@@ -1,4 +1,5 @@
-// The files of the system.
+//! The files of the system.
+
 ghost use Rattle.std.specs.Prelude.{◌≡◌, ◌≢◌, None, OnOk, OnErr};
 ghost use Rattle.std.specs.Io.{StartsWith};
 ghost use Rattle.edge.specs.Counts.{no_counts, counted_fetch, counted_store};

@@ -1,4 +1,5 @@
-// What the errors of the system mean here.
+//! What the errors of the system mean here.
+
 ghost use Rattle.std.specs.Prelude.{◌≡◌};
 ghost use Rattle.std.specs.IoError.{error_kind};
 ghost use Rattle.edge.specs.Faults.{fault_of};

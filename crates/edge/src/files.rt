@@ -1,4 +1,5 @@
-// Files by their paths.
+//! Files by their paths.
+
 ghost use Rattle.std.specs.Prelude.{◌≡◌, Option};
 ghost use Rattle.edge.specs.Counts.{FileCounts, counted_fetch, counted_store};
 ghost use Rattle.edge.specs.Files.{Held, FetchGives, StoreDoes};

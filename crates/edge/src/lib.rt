@@ -1,11 +1,12 @@
 //! What the program reaches outside itself: files, a source and a sink of bytes, real and in
 //! memory.
 //!
-//!     let mut files = MemFiles::new(alloc, &[1])?;
-//!     files.put("a.drv", b"one")?;
-//!
-//! The first fetch of `a.drv` is `Fetched::Found` and appends `one`; the second, whose number 1 is
-//! listed, is `Fetched::Failed` and counted.
+//! ```text
+//! let mut files = MemFiles::new(alloc, &[1])?;         // the call of number 1 fails
+//! files.put("a.drv", b"one")?;
+//! files.fetch("a.drv", &mut bytes)                     // Fetched::Found: `one` is appended
+//! files.fetch("a.drv", &mut bytes)                     // Fetched::Failed, which is counted
+//! ```
 #![tactic(auto)]
 
 mod disk;

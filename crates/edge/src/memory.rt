@@ -1,4 +1,5 @@
-// Files, a source and a sink in memory, for tests. Each fails at the calls that it was told.
+//! Files, a source and a sink in memory, for tests. Each fails at the calls that it was told.
+
 mod files;
 mod script;
 mod sink;

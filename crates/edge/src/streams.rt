@@ -1,4 +1,5 @@
-// A source and a sink of bytes.
+//! A source and a sink of bytes.
+
 ghost use Rattle.std.specs.Prelude.{◌≡◌, ◌<◌, ℕ, List, [], length, Option};
 ghost use Rattle.std.specs.Io.KnownBytes.{IsAtEnd};
 ghost use Rattle.edge.specs.Counts.{counted_read, counted_write};

@@ -1,4 +1,5 @@
-// Each public call once, with its answer, and what the system may answer.
+//! Each public call once, with its answer, and what the system may answer.
+
 use super::*;
 use crate::disk::{append_all, fetched_from};
 use crate::faults::{Fault, fault_of};

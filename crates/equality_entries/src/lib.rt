@@ -1,5 +1,10 @@
 //! What stands behind the conclusions of the rules of contexts, substitutions, equality and the
 //! universe.
+//!
+//! ```text
+//! context_entry(ContextRule::CtxVar, Label::Type)
+//! // G >> A, behind ctx G.A: it is premise 0
+//! ```
 #![tactic(auto)]
 
 /// The rows of a table, each on a line of its own however long.

@@ -1,4 +1,5 @@
-// Equations of a name with an end of the interval.
+//! Equations of a name with an end of the interval.
+
 use antichains::Element;
 use interval::Literal;
 

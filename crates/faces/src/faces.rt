@@ -1,4 +1,5 @@
-// Disjunctions of conjunctions of equations.
+//! Disjunctions of conjunctions of equations.
+
 ghost use Rattle.std.specs.Prelude.{◌≡◌, ◌↔◌, false, true, List, [], All, Any};
 ghost use Rattle.std.specs.Prelude.{Contains, IsTrue, IfOk, MatchOption};
 ghost use Rattle.std.specs.List.Sorted.{IsStrictlySortedBy};

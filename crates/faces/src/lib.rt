@@ -14,6 +14,14 @@
 //! takes 0.2 to 4 microseconds where they share names. Merges that imply the face, contradict
 //! themselves or have another one within them go at once; what stays can grow as the product of the
 //! numbers of conjunctions.
+//!
+//! ```text
+//! let i = Form::name(alloc, 0)?;
+//! let start = Face::eq(alloc, &i, false)?;                      // (i = 0)
+//! let ends = start.join(&Face::eq(alloc, &i, true)?)?;          // (i = 0) ∨ (i = 1)
+//! ends.holds_under(&[start])?                                   // true
+//! ends.holds_under(&[])?                                        // false, since i may be free
+//! ```
 #![tactic(auto)]
 
 pub mod equations;

@@ -1,4 +1,5 @@
-// Faces written in postfix, with what they are and what they follow from.
+//! Faces written in postfix, with what they are and what they follow from.
+
 ghost use Rattle.std.specs.Prelude.{◌≡◌, false, IfOk};
 
 use crate::{Equation, Face, FaceStack, Lattice};

@@ -1,5 +1,10 @@
 //! What stands behind the conclusions of the rules of Glue, and that types of equivalences are
 //! equal where their ends are.
+//!
+//! ```text
+//! glue_entry(GlueRule::Unglue, Label::Type)
+//! // G >> A, behind G >> unglue p T w b : A: it is premise 0
+//! ```
 #![tactic(auto)]
 
 ghost use Rattle.std.specs.Prelude.{[], ◌∷◌};

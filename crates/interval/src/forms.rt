@@ -1,4 +1,5 @@
-// Sums of products of literals.
+//! Sums of products of literals.
+
 ghost use Rattle.std.specs.Prelude.{◌≡◌, ◌↔◌, List, IsTrue, IfOk};
 ghost use Rattle.antichains.specs.Antichains.{IsNormal, IsWithin};
 ghost use Rattle.points.specs.Values.{value_at, with_value, zero_value};

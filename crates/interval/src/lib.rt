@@ -8,6 +8,12 @@
 //! twelve names with all their 4,096 products of twelve literals takes about 1 MB, and 0.2 seconds
 //! by twelve meets: almost all of it goes into tests of whether one product contains another, 8
 //! million in the last meet.
+//!
+//! ```text
+//! let (i, k) = (Form::name(alloc, 0)?, Form::name(alloc, 1)?);
+//! let form = i.join(&k)?.neg()?;                                // -i ∧ -k
+//! form.at(1, false)?.same(&i.neg()?)                            // true
+//! ```
 #![tactic(auto)]
 
 pub mod forms;

@@ -1,4 +1,5 @@
-// Names of the interval and their negations.
+//! Names of the interval and their negations.
+
 use antichains::Element;
 
 /// A name of the interval, or its negation.

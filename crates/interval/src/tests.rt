@@ -1,4 +1,5 @@
-// Forms written in postfix, with what they are; and laws that hold of all forms.
+//! Forms written in postfix, with what they are; and laws that hold of all forms.
+
 ghost use Rattle.std.specs.Prelude.{◌≡◌, true, false, IfOk};
 
 use crate::{Form, FormStack, Lattice, Literal};

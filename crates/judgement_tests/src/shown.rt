@@ -1,6 +1,6 @@
 //! Claims as texts. `#0` is an index, `t[2]` a tree under a shift, `t[2, u]` under one with a tree
-//! pushed on it; a context is written from the outside, `[] : A . i | p` under a variable of the type
-//! A, a name and a face.
+//! pushed on it; a context is written from the outside, `[] : A . i | p` under a variable of the
+//! type A, a name and a face.
 
 use rows::{CtxId, CtxRow, Reader, RowStore, SubId, SubRow, TermId, TermRow};
 use std::alloc::{AllocError, Global};

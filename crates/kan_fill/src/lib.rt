@@ -3,6 +3,12 @@
 //!
 //! A table derives what it states wherever its premises are concluded and its side conditions hold:
 //! the rows that it names conclude a typing, and then equations at the ends and where a side is.
+//!
+//! ```text
+//! FILL             of G A p b a r, where p is a face and r a formula of G
+//! wants            ctx G; G.I >> A; G.p.I >> b : A; G >> a : A{0}; G.p >> a = b{0} : A{0}
+//! gives            G >> Fill(i.A, p, i.b, a, r) : A{r}, and what it is at r = 0, at r = 1 and on p
+//! ```
 #![tactic(auto)]
 
 ghost use Rattle.std.specs.Prelude.{[], ◌∷◌};

@@ -1,5 +1,11 @@
 //! Derivations that use the recipes of the Kan operations, run over a book, and what the judge says
 //! of them.
+//!
+//! ```text
+//! let call = filling(&mut book)?;                      // of zero by itself, in [].I
+//! let filled = fill(&mut book, call.ctx, &call.step)?;
+//! judged(alloc, &book, &[filled.typing])?              // Verdict::Yes { .. }
+//! ```
 #![tactic(auto)]
 
 ghost use Rattle.recipes.specs.Derivations.{Derives};

@@ -2,6 +2,12 @@
 //!
 //! Two passes, each with a definition of its own: a scanner cuts the text in pieces, each the
 //! longest that the rest begins with, and layout sets marks between the tokens.
+//!
+//! ```text
+//! tokens(alloc, b"let\nx")?            // `let`, the mark Open, a name at the bytes 4..5, Close
+//! tokens(alloc, b"x.1")?               // a name at 0..1, and `.1` at 1..3
+//! tokens(alloc, b"x.")                 // Err(LexFault::BadByte(1))
+//! ```
 #![tactic(auto)]
 
 mod blocks;

@@ -16,8 +16,8 @@ most_modules = 250
 abbrev pub IsLoaded : List ModuleText → List ℕ → Type 0
 IsLoaded loaded name = Any (λ x. name_of x ≡ name) loaded
 
--- Where so many modules are loaded, and the loading of those of the names `begun` has not ended: that
--- name is another, and there is room for it.
+-- Where so many modules are loaded, and the loading of those of the names `begun` has not ended:
+-- that name is another, and there is room for it.
 abbrev pub IsAnother : ℕ → List (List ℕ) → List ℕ → Type 0
 IsAnother loaded begun name =
     (Contains begun name → ⊥) × (loaded + length begun < most_modules)

@@ -1,5 +1,5 @@
-//! Values by number, of which the newest of a number counts: what is in scope under definitions that
-//! go by number.
+//! Values by number, of which the newest of a number counts: what is in scope under definitions
+//! that go by number.
 //!
 //! ```text
 //! scope.push(Numbered { number: 3, value: a })?;

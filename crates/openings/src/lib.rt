@@ -1,6 +1,12 @@
 //! Recipes that open literal forms: from the nodes that make a form, which stand in another
 //! context, the nodes of its parts under a substitution. With them stand uses of what stands behind
 //! a judgement.
+//!
+//! ```text
+//! OPEN_BINDER      of H d G A B, the parts of (pi A B)[d] or (sig A B)[d]
+//! wants            d : H to G; G >> A; G.A >> B
+//! gives            H >> A[d]; H.A[d] >> B[push (d then up) (var 0)]
+//! ```
 #![tactic(auto)]
 
 ghost use Rattle.std.specs.Prelude.{[], ◌∷◌};

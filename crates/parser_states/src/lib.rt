@@ -2,6 +2,12 @@
 //!
 //! `specs/View` says which state of `productions` each one stands for, and so what a step has to
 //! give.
+//!
+//! ```text
+//! form_word(Kind::PathP)               // Some(FormWord::Pairing(Pairing::Path))
+//! form_word(Kind::U)                   // None
+//! keep_exp(exps, 0, exp)?              // exps: what is too deep is not kept
+//! ```
 #![tactic(auto)]
 
 mod lists;

@@ -1,4 +1,9 @@
 //! What stands behind the conclusions of the rules of paths and natural numbers.
+//!
+//! ```text
+//! nat_entry(NatRule::Suc, Label::Context)
+//! // ctx G, behind G >> suc n : nat: the context behind premise 0, G >> n : nat
+//! ```
 #![tactic(auto)]
 
 /// The rows of a table, each on a line of its own however long.

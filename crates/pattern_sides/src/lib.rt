@@ -6,6 +6,13 @@
 //! under substitutions. There are few, mostly one or two.
 //!
 //! Nothing here runs. The functions below have what is proved as their contracts.
+//!
+//! ```text
+//! // p is declared a face of G, and r a formula
+//! G.p              p or (r = 0) holds              found
+//! G.(r = 1)        p holds, where p or (r = 0) is declared to hold in G       found
+//! G                (r = 0) or (r = 1) holds        refused: a formula may be at neither end
+//! ```
 #![tactic(auto)]
 
 ghost use Rattle.std.specs.Prelude.{◌≡◌, true, List, map};

@@ -4,6 +4,12 @@
 //! Nothing here runs. A pattern is read in any language of trees; read in normal terms with unknown
 //! parts it computes to its normal form, and the tests compare normal forms. The functions below
 //! have what is proved as their contracts.
+//!
+//! ```text
+//! // A of G, d : H to G and e : K to H are parts that are not known
+//! same_tree        A[d][e] and A[d then e]         true: they are one tree at all parts
+//! same_tree        A+{a} and A                     true
+//! ```
 #![tactic(auto)]
 
 ghost use Rattle.std.specs.Prelude.{◌≡◌, ℕ, true, length, map, List};

@@ -1,4 +1,10 @@
 //! What stands behind the conclusions of the rules of functions and pairs.
+//!
+//! ```text
+//! pi_entry(PiRule::Lam, Label::Type)
+//! // G >> pi A B, behind G >> lam A b : pi A B: from premise 0, G >> A, and from G.A >> B, which
+//! // is the type behind premise 1, G.A >> b : B
+//! ```
 #![tactic(auto)]
 
 /// The rows of a table, each on a line of its own however long.

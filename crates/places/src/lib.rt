@@ -1,6 +1,15 @@
 //! The place of a code in a checker: its context, entry by entry, as nodes of a book, with the
 //! weakenings between the contexts that it goes through. A weakening is made of few others, so that
 //! deep places cost little more than shallow ones.
+//!
+//! ```text
+//! let mut places = Places::new(alloc, book)?;
+//! let (_, numbers) = numbers_type(book, places.ctx())?;
+//! places.enter_all(book, numbers, 3)?;
+//! places.enter_name(book)?;                    // the place of [].nat.nat.nat.I, of depth 4
+//! places.variable(book, 1)?                    // Some: var 1 with its type
+//! places.variable(book, 0)?                    // None: this is a name
+//! ```
 #![tactic(auto)]
 
 mod place;

@@ -3,6 +3,12 @@
 //!
 //! Nothing here runs: the functions have the laws of the definitions as their contracts, so that a
 //! check proves each.
+//!
+//! ```text
+//! meet free_value zero_value                   // zero_value
+//! join free_value (negation free_value)        // free_value: a name and its negation are not 1
+//! value_at (with_value 2 one_value []) 0       // free_value: nothing is told of the name 0
+//! ```
 #![tactic(auto)]
 
 ghost use Rattle.std.specs.Prelude.{◌≡◌, ◌≢◌, ℕ, Bool, true, not};

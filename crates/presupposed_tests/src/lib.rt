@@ -1,4 +1,9 @@
 //! Derivations that grow, and derivations of forms; and what stands behind their last nodes.
+//!
+//! ```text
+//! let term = successors(&mut book, 3)?;                // [] >> suc (suc (suc zero)) : nat
+//! type_of_term(alloc, &mut book, term)?                // Found::Node, of [] >> nat
+//! ```
 #![tactic(auto)]
 
 /// The rows of a table, each on a line of its own however long.

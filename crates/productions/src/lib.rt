@@ -4,6 +4,12 @@
 //! Little here runs. `specs/Grammar` says which tokens spell which tree, and `specs/Machine` what a
 //! parser keeps, token by token; the proofs say what tokens complete each state, and the law below
 //! follows.
+//!
+//! ```text
+//! laws_of_runs();
+//! // the run over the tokens of `U -> U` may end, and its tree is the only one that they spell;
+//! // over those of `a * b` it stops at `*`, and no expression begins with `a *`
+//! ```
 #![tactic(auto)]
 
 mod past;

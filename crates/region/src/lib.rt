@@ -3,6 +3,15 @@
 //! The words of rows stand in chunks of 4,096, each row whole in one chunk, and are never moved. A
 //! table of slots finds a row by its words. `reserve` makes room beforehand, so that what follows
 //! cannot be out of memory, and `release` takes the newest rows back and keeps their room.
+//!
+//! ```text
+//! let mut region = Region::new(alloc)?;
+//! region.intern(&[1, 2])?              // RowId(0)
+//! region.intern(&[3])?                 // RowId(1)
+//! region.intern(&[1, 2])?              // RowId(0), since this row stands
+//! region.release(Mark(1));
+//! region.intern(&[2, 1])?              // RowId(1), in the room of the row that was released
+//! ```
 #![tactic(auto)]
 
 mod hash;

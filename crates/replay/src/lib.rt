@@ -2,12 +2,13 @@
 //! not.
 //!
 //! It shares with the checker the language of the theory, the rules, the rows of files, the
-//! comparison of rows, the decision of side conditions and the form of what is weakened, and nothing
-//! else.
+//! comparison of rows, the decision of side conditions and the form of what is weakened, and
+//! nothing else.
 //!
-//! For example the verdict on `rules 1`, `c nil`, `n ctx.nil`, `r 2`, each with its newline, is
-//! four rows and one root; with `r 1` in place of `r 2` it is that row 3 is the first that is not
-//! right.
+//! ```text
+//! judge(alloc, b"rules 1\nc nil\nn ctx.nil\nr 2\n")?.verdict     // Yes { rows: 4, roots: 1 }
+//! judge(alloc, b"rules 1\nc nil\nn ctx.nil\nr 1\n")?.verdict     // No { row: 3 }
+//! ```
 #![tactic(auto)]
 
 mod filed;

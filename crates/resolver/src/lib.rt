@@ -1,5 +1,13 @@
 //! From the text of a module to codes, which mean the trees of the text: names become variables and
 //! definitions, lines stand opened, and what a text abbreviates is written out.
+//!
+//! ```text
+//! // nothing is in scope but what is built in
+//! let scope = Scope { names: ScopeNames::new(alloc), next: 0 };
+//! resolve_exp(alloc, bytes, &exp, &scope)
+//! // of `\(x : nat) -> suc x`: Code::Lambda, over Code::Suc of Code::Bound { index: 0, .. }
+//! // of `\(x : nat) -> suc y`: Err(ScopeFault::Unbound(18))
+//! ```
 #![tactic(auto)]
 
 mod applied;

@@ -21,8 +21,8 @@ pub trait Rows {
     ghost means: { Self → Meanings };
 }
 
-/// Makes rows, which it names by their numbers. A call may answer with a row that was made before.
-/// It adds one row at most, and what rows meant they go on to mean.
+/// Makes rows, which it names by their numbers. A call spends one of the spare at most. It may add
+/// no row, where one stands that means the same, or several. What rows meant they go on to mean.
 pub trait Maker: Rows {
     /// How many rows can still be made without running out of memory.
     ghost spare: { Self → ℕ };

@@ -1,9 +1,10 @@
 //! The commands of the program, over any files, source and sink.
 //!
-//!     let status = run(alloc, &words, &mut files, &mut input, &mut out);
-//!
-//! With the words `replay two.drv`, where `files` hold the thirteen right rows of two roots at
-//! `two.drv`, `out` takes `yes: 13 rows, 2 roots` and the status is `Status::Yes`.
+//! ```text
+//! // the words `replay two.drv`, where files hold thirteen right rows of two roots at `two.drv`
+//! run(alloc, &words, &mut files, &mut input, &mut out)         // Status::Yes
+//! // out took `yes: 13 rows, 2 roots`
+//! ```
 #![tactic(auto)]
 
 mod check_command;

@@ -1,4 +1,5 @@
-// How commands end, the texts of that and the statuses.
+//! How commands end, the texts of that and the statuses.
+
 ghost use Rattle.std.specs.Prelude.{◌≡◌, IfOk, string_bytes};
 ghost use Rattle.session.specs.Answers.{OneVerdict, OneAnswer};
 ghost use Rattle.session.specs.Outcomes.{plain_text, status_of};

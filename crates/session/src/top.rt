@@ -1,4 +1,5 @@
-// The top call: it does what the words ask for, and prints how that ended.
+//! The top call: it does what the words ask for, and prints how that ended.
+
 ghost use Rattle.std.specs.Prelude.{◌≡◌, ◌≢◌, [], IfOk};
 ghost use Rattle.edge.specs.Seen.{seen_files, seen_source, seen_sink};
 ghost use Rattle.session.specs.Answers.{MayAnswer, MayStore, Printed, Ran, world};

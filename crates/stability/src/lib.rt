@@ -3,6 +3,14 @@
 //!
 //! Nothing here runs. The table is read at patterns, where a wrong shift, a forgotten lift or a
 //! part under the wrong binder would make the two sides differ.
+//!
+//! ```text
+//! // along d : H to G, where d' is d under one more binder
+//! app over G       G >> f : pi A B; G >> a : A
+//!                  gives G >> app f a : B{a}
+//! app over H       H >> f[d] : pi A[d] B[d']; H >> a[d] : A[d]
+//!                  gives H >> app f[d] a[d] : B[d']{a[d]}, which is (app f a)[d] : B{a}[d]
+//! ```
 #![tactic(auto)]
 
 ghost use Rattle.theory.specs.declared.rule.EqualityRule.{EqualityRule};

@@ -1,5 +1,11 @@
 //! Derived rules of contexts, substitutions and congruence, as recipes: what other derivations use
 //! again and again.
+//!
+//! ```text
+//! LIFT_VAR         of H d G A
+//! wants            d : H to G; G >> A
+//! gives            push (d then up) (var 0) : H.A[d] to G.A
+//! ```
 #![tactic(auto)]
 
 ghost use Rattle.std.specs.Prelude.{[], ◌∷◌};

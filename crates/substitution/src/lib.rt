@@ -3,6 +3,12 @@
 //! Nothing here runs. The lemmas stand in `proofs/`, a public one for each law, named by the left
 //! side of its equation; the functions below have them as their contracts, so that a check of this
 //! crate proves each.
+//!
+//! ```text
+//! apply_apply      A[d][e] is A[d then e]
+//! at_weaken        A+{a} is A
+//! apply_at         A{a}[d] is A[lift d]{a[d]}
+//! ```
 #![tactic(auto)]
 
 ghost use Rattle.std.specs.Prelude.{◌≡◌, ℕ, suc, ◌+◌, ◌-◌, ◌*◌, ◌^◌, ◌<◌, ◌≤◌, List};

@@ -68,13 +68,18 @@ abbrev mutual
   apply_kids (More t rest) op at depth d =
       More (apply_under t (depth + binds_of op at) d) (apply_kids rest op (suc at) depth d)
 
--- `A[d]`
+-- `A[d]`: `H >> A[d]`, where `d : H to G` and `G >> A`, and `H >> a[d] : A[d]`, where `d : H to G`
+-- and `G >> a : A`
 abbrev pub apply : Tree → Subst → Tree
 apply t d = apply_under t 0 d
 
+-- `shift_by 0 : G to G`, where `ctx G`; `shift_by (suc n) : H.A to G`, where `shift_by n : H to G`
+-- and `H >> A`, and so for a name, `H.I`
 abbrev pub shift_by : ℕ → Subst
 shift_by n = record { pushed = NoTrees; shift = n }
 
+-- `push d a : H to G.A`, where `d : H to G`, `G >> A` and `H >> a : A[d]`; `push d r : H to G.I`,
+-- where `d : H to G` and r is a formula over H
 abbrev pub push : Subst → Tree → Subst
 push d a = record { pushed = More a d.pushed; shift = d.shift }
 
@@ -88,13 +93,15 @@ abbrev pub then_from : Trees → ℕ → Subst → Subst
 then_from NoTrees shift e = without shift e.pushed e.shift
 then_from (More a rest) shift e = push (then_from rest shift e) (apply a e)
 
--- first d, then e
+-- first d, then e: `d then e : K to G`, where `d : H to G` and `e : K to H`
 abbrev pub then : Subst → Subst → Subst
 then d e = then_from d.pushed d.shift e
 
+-- `id : G to G`, where `ctx G`
 abbrev pub id : Subst
 id = shift_by 0
 
+-- `up : G.A to G`, where `G >> A`, and `up : G.I to G`, where `ctx G`
 abbrev pub up : Subst
 up = shift_by 1
 

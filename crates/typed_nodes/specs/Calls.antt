@@ -19,8 +19,8 @@ pub record IsTableOf (s : Statement) (rows : List Row) (gives : List ℕ) (n : �
   pub derives : Derives [] s rows gives
   pub first : list_all (names_first n) rows ≡ true
 
--- the first parts mean the first of these things, at which the statement may stand, and the premises
--- conclude what it wants there
+-- the first parts mean the first of these things, at which the statement may stand, and the
+-- premises conclude what it wants there
 pub record MayCall (s : Statement) (b : Contents) (parts premises : List ℕ) (things : List Thing) :
     Type 0 where
   pub parts_are : meanings (book_means b) parts ≡ Some (take (length parts) things)

@@ -1,6 +1,13 @@
 //! Terms and types by their nodes: a type stands at home in another context, under a substitution,
 //! so that nothing is made again where it is used. Each function forms a context, a substitution, a
 //! type or a term of typed parts, by one derived rule.
+//!
+//! ```text
+//! let ctx = empty(book)?;                      // ctx []
+//! let nought = zero(book, ctx)?;               // [] >> zero : nat
+//! let one = successor(book, nought)?;          // [] >> suc zero : nat
+//! let (small, numbers) = numbers_type(book, ctx)?;     // [] >> nat : U, and [] >> nat
+//! ```
 #![tactic(auto)]
 
 mod calls;

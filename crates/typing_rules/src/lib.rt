@@ -3,6 +3,12 @@
 //!
 //! A type stands under a substitution: where a head has the type `(pi A B)[d]`, and its argument
 //! checks at `A[d]`, the type of the application is B under d with the argument pushed.
+//!
+//! ```text
+//! APPLIED          of H d G A B f a
+//! wants            d : H to G; G >> A; G.A >> B; H >> f : (pi A B)[d]; H >> a : A[d]
+//! gives            H >> app f a : B[push d a]; push d a : H to G.A
+//! ```
 #![tactic(auto)]
 
 ghost use Rattle.std.specs.Prelude.{[], ◌∷◌};

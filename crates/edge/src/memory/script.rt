@@ -1,4 +1,5 @@
-// Which calls of an object in memory are to fail.
+//! Which calls of an object in memory are to fail.
+
 ghost use Rattle.std.specs.Prelude.{◌≡◌, ◌↔◌, IfOk, IsTrue, Contains};
 ghost use Rattle.edge.specs.Counts.{one_more};
 

@@ -1,4 +1,5 @@
-// A sink in memory.
+//! A sink in memory.
+
 ghost use Rattle.std.specs.Prelude.{◌≡◌, ◌≤◌, ◌↔◌, ◌⊎◌, [], Some, IfOk, Contains, length};
 ghost use Rattle.edge.specs.Memory.{after_write, TakesWhatFits};
 

@@ -1,4 +1,5 @@
-// A source in memory.
+//! A source in memory.
+
 ghost use Rattle.std.specs.Prelude.{◌≡◌, ◌↔◌, ◌++◌, min, Some, IfOk, Contains, length, take, drop};
 ghost use Rattle.edge.specs.Streams.{ReadGives};
 ghost use Rattle.edge.specs.Memory.{after_read, GivesWhatFits};
