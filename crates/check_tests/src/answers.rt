@@ -1,9 +1,5 @@
 //! What is printed, with which status, over objects in memory.
-<<<<<<< HEAD:crates/check_tests/src/answers.rt
-=======
 
-use super::*;
->>>>>>> 754b109bb22f77ef2a1173ae89a535838d9e12f6:crates/session/src/tests.rt
 use edge::{MemFiles, MemSink, MemSource};
 use session::{Status, answers_exclude_each_other, run};
 use std::alloc::{AllocError, Global};
