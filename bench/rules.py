@@ -8,13 +8,12 @@ import tempfile
 
 sys.path.insert(0, str(pathlib.Path(__file__).resolve().parent.parent / "tools"))
 import rule_cases
-import rule_notation
 from replay import run
 
 
-def seconds(program, path, lines):
-    """The least seconds of three runs on the rows of every rule and these lines."""
-    rows = rule_cases.ROWS + lines
+def seconds(program, path, file, lines):
+    """The least seconds of three runs on the rows of a file and these lines."""
+    rows = file.rows + lines
     path.write_text("".join(row + "\n" for row in rows))
     runs = [run(program, path) for _ in range(3)]
     if any(answer != f"yes: {len(rows)} rows, 0 roots\n" for answer, _ in runs):
@@ -25,19 +24,19 @@ def seconds(program, path, lines):
 def main():
     program = os.path.abspath(sys.argv[1])
     count = int(sys.argv[2]) if len(sys.argv) > 2 else 200_000
-    uses = rule_cases.uses()
     with tempfile.TemporaryDirectory() as folder:
         path = pathlib.Path(folder, "rules.drv")
-        empty = seconds(program, path, [])
         print(f"{'family':>10} {'rows/s':>10}  {'slowest rule':<12} {'rows/s':>10}")
-        for family in rule_notation.families():
-            lines = {rule.name: " ".join(uses[rule.name][1]) for rule in family.rules}
-            speed = {name: count / (seconds(program, path, [line] * count) - empty)
-                     for name, line in lines.items()}
-            mixed = list(lines.values()) * (count // len(lines))
-            mean = len(mixed) / (seconds(program, path, mixed) - empty)
-            worst = min(speed, key=speed.get)
-            print(f"{family.variant:>10} {mean:>10.0f}  {worst:<12} {speed[worst]:>10.0f}")
+        for file in rule_cases.files():
+            uses, empty = file.uses(), seconds(program, path, file, [])
+            for family in file.families:
+                lines = {rule.name: " ".join(uses[rule.name]) for rule in family.rules}
+                speed = {name: count / (seconds(program, path, file, [line] * count) - empty)
+                         for name, line in lines.items()}
+                mixed = list(lines.values()) * (count // len(lines))
+                mean = len(mixed) / (seconds(program, path, file, mixed) - empty)
+                worst = min(speed, key=speed.get)
+                print(f"{family.variant:>10} {mean:>10.0f}  {worst:<12} {speed[worst]:>10.0f}")
 
 
 if __name__ == "__main__":

@@ -38,7 +38,7 @@ from try_modules import direct_module
 ROOT = pathlib.Path(__file__).resolve().parent.parent
 FILES = {path.name: path.read_bytes() for path in (ROOT / "examples").iterdir()}
 TEXTS = {name: data for name, data in FILES.items() if name.endswith(".ctt")}
-EVERY_RULE = (ROOT / "tests" / "every_rule.drv").read_bytes()
+OF_RULES = [path.read_bytes() for path in sorted((ROOT / "tests").glob("*.drv"))]
 OLD = b"what stood here before\n"
 
 # A text, and what must hold of it.
@@ -155,7 +155,7 @@ def a_derivation(rng):
     name = rng.choice(["First"] * 6 + ["Two"] * 3 + ["Pairs", "Numbers", "Imports"])
     data = FILES["two.drv" if name == "Two" else f"{name}.drv"]
     wanted = judged(data)[1]
-    data = EVERY_RULE if rng.randrange(8) == 0 else data
+    data = rng.choice(OF_RULES) if rng.randrange(8) == 0 else data
     return Case(f"derivation beside {name}.ctt", changed_derivation(rng, data),
                 lambda program, text: hold_of_derivation(program, text, TEXTS, name, wanted))
 

@@ -1,44 +1,63 @@
-"""Cases for each rule: a file that uses each rightly, and what comes of it with one thing wrong.
+"""Cases for each rule: files that use each rightly, and what comes of them with one thing wrong.
 
 `tests/every_rule.drv` is right. It uses each rule, and where its parts may depend on variables they
-do; at its end stand nodes that take the conclusion of each rule, written out.
-`tests/false_sides.txt` has nodes that may stand after it and are wrong by a side condition alone.
-`judge.py` says what to expect.
+do; at its end stand nodes that take the conclusion of each rule, written out. Those of systems,
+composition and Glue it uses nearly all where the faces of the context are true nowhere, so that
+all is equal there; `tests/consistent_rules.drv` uses them where their premises say something.
+`tests/false_sides.txt` has nodes that may stand after every rule and are wrong by a side condition
+alone. `named_cases.py` has cases of single rules. `judge.py` says what to expect.
 """
 import pathlib
 
 import judge
+import named_cases
+import rule_notation
 
 TESTS = pathlib.Path(__file__).resolve().parent.parent / "tests"
-ROWS = (TESTS / "every_rule.drv").read_text().splitlines()
 FALSE_SIDES = (TESTS / "false_sides.txt").read_text().splitlines()
 
-# Rows that no rule of the file wants: a context, a substitution, a tree, a node.
-OTHERS = {
-    "Context": "c name 12",
-    "Subst": "s shift 7",
-    "Term": "t fst 4",
-    "Node": "n ctx.var 1 4 11",
-}
+
+class File:
+    """A file of right rows, with the families of rules whose uses it is for."""
+
+    def __init__(self, name, families):
+        self.name, self.families = name, families
+        self.rows = (TESTS / f"{name}.drv").read_text().splitlines()
+        self.meanings = judge.meanings(self.rows)
+
+    def uses(self):
+        """The last use of each rule of these families: the words of its row."""
+        nodes = [line.split(" ") for line in self.rows if line.startswith("n ")]
+        last = {words[1]: words for words in nodes}
+        return {rule.name: last[rule.name] for family in self.families for rule in family.rules}
+
+    def other(self, row):
+        """The row of the same kind that stands before a row, or after it where none does."""
+        kinds = [kind for kind, *_ in self.meanings]
+        before = [at for at in range(row) if kinds[at] == kinds[row]]
+        return before[-1] if before else kinds.index(kinds[row], row + 1)
+
+    def exchanged(self):
+        """Each use with one number exchanged for another row of its kind."""
+        for words in self.uses().values():
+            for place in range(2, len(words)):
+                other = str(self.other(int(words[place])))
+                yield self, words[:place] + [other] + words[place + 1:]
+
+    def after(self, words):
+        """The case of a row after the rows up to the last that it names, which are right."""
+        at = 1 + max(map(int, words[2:]), default=0)
+        try:
+            judge.row(words, self.meanings[:at])
+            line = f"yes: {at + 1} rows, 0 roots\n"
+        except (ValueError, KeyError, IndexError):
+            line = f"no: row {at}\n"
+        return case(self.rows[:at] + [" ".join(words)], line)
 
 
-def uses():
-    """The last use of each rule: its row, with the words of its line."""
-    found = {}
-    for at, line in enumerate(ROWS):
-        words = line.split(" ")
-        if words[0] == "n":
-            found[words[1]] = (at, words)
-    return found
-
-
-def exchanged():
-    """Each use with one number exchanged for another row of its kind: the row, with the line."""
-    others = {kind: str(ROWS.index(line)) for kind, line in OTHERS.items()}
-    for name, (at, words) in uses().items():
-        rule = judge.RULES[name]
-        for place, kind in enumerate(rule.kinds() + ["Node"] * len(rule.wants), start=2):
-            yield at, " ".join(words[:place] + [others[kind]] + words[place + 1:])
+def files():
+    *others, systems, composition, gluing = rule_notation.families()
+    return File("every_rule", others), File("consistent_rules", [systems, composition, gluing])
 
 
 def case(rows, line):
@@ -47,22 +66,13 @@ def case(rows, line):
     return (text, ["replay", "{}"], line, 0 if line.startswith("yes") else 1)
 
 
-def after(at, row, meanings):
-    """The case of the first rows, which are right, with one more row."""
-    try:
-        judge.row(row.split(" "), meanings[:at])
-        line = f"yes: {at + 1} rows, 0 roots\n"
-    except (ValueError, KeyError, IndexError):
-        line = f"no: row {at}\n"
-    return case(ROWS[:at] + [row], line)
-
-
 def cases(step):
     """The cases: of the exchanges one in so many."""
-    meanings = judge.meanings(ROWS)
-    found = {"every_rule": case(ROWS, judge.verdict(ROWS))}
-    for number, (at, line) in list(enumerate(exchanged()))[::step]:
-        found[f"exchanged_{number}"] = after(at, line, meanings)
+    every, consistent = files()
+    found = {file.name: case(file.rows, judge.verdict(file.rows)) for file in (every, consistent)}
+    exchanged = [*every.exchanged(), *consistent.exchanged()]
+    for number, (file, words) in list(enumerate(exchanged))[::step]:
+        found[f"exchanged_{number}"] = file.after(words)
     for number, line in enumerate(FALSE_SIDES):
-        found[f"false_side_{number}"] = after(len(ROWS), line, meanings)
-    return found
+        found[f"false_side_{number}"] = every.after(line.split(" "))
+    return found | {name: case(rows, line) for name, rows, line in named_cases.cases()}
