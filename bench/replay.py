@@ -4,7 +4,7 @@
 `suc`: successors of zero. `lam`: functions of many arguments, each derived under the context of those
 before it. `app`: one function applied to what it gave before, so that each argument's type is an instance.
 `sub`: a term weakened entry by entry along a context. `comp`: compositions over one line, each of what the
-one before gave.
+one before gave, on the face that is true nowhere.
 """
 
 import os
