@@ -4,11 +4,13 @@
 #![tactic(auto)]
 
 #[cfg(test)]
-mod by_hand;
-#[cfg(test)]
 mod depths;
 #[cfg(test)]
 mod expressions;
+#[cfg(test)]
+mod faults;
+#[cfg(test)]
+mod forms;
 #[cfg(test)]
 mod modules;
 #[cfg(test)]

@@ -1,4 +1,4 @@
-//! Texts, with their codes shown or the fault.
+//! Texts, and what is shown of their codes, or the fault.
 
 ghost use Rattle.std.specs.Prelude.{IfOk};
 ghost use Rattle.resolver.specs.Resolved.{AreEarlier};
@@ -6,15 +6,15 @@ ghost use Rattle.resolver.specs.Resolved.{AreEarlier};
 use crate::shown::{code_shown, defs_shown};
 use grammar::{read, read_exp};
 use layout_lexer::tokens;
-use resolver::{Name, Scope, ScopeFault, ScopeName, ScopeNames, resolve, resolve_exp};
+use resolver::{Name, Scope, ScopeName, ScopeNames, resolve, resolve_exp};
 use std::alloc::{AllocError, Global};
 use std::process::Abort;
 use std::test::Fail;
 
-/// A text, and its code shown or its fault.
+/// A text, and its code shown.
 pub type Row = (&'static str, &'static str);
 
-/// A scope of three definitions, two of which have names.
+/// Three definitions, of which the last two have one name.
 fn scope(alloc: Global) -> Result<Scope, AllocError>
     ensures { IfOk result (λ s. AreEarlier s.next s.names) }
 {
@@ -25,13 +25,13 @@ fn scope(alloc: Global) -> Result<Scope, AllocError>
     })?;
     names.push(ScopeName {
         name: Name::new(alloc, b"g")?,
+        def: 1,
+    })?;
+    names.push(ScopeName {
+        name: Name::new(alloc, b"g")?,
         def: 2,
     })?;
     Ok(Scope { names, next: 3 })
-}
-
-fn fault_shown(alloc: Global, fault: ScopeFault) -> Result<String, AllocError> {
-    format!(in alloc; "{fault:?}")
 }
 
 /// The code of an expression, shown, or the fault.
@@ -44,26 +44,25 @@ pub fn exp_shown(alloc: Global, text: &str) -> Result<String, AllocError> {
     };
     match resolve_exp(alloc, text.as_bytes(), &exp, &scope(alloc)?) {
         Ok(code) => code_shown(alloc, &code),
-        Err(fault) => fault_shown(alloc, fault),
+        Err(fault) => format!(in alloc; "{fault:?}"),
     }
 }
 
-/// The definitions of a module, shown, or the fault.
-fn module_shown(alloc: Global, defs: &str) -> Result<String, AllocError> {
-    let text = format!(in alloc; "module M where\n{defs}\n")?;
-    let bytes = text.as_bytes();
-    let Ok(tokens) = tokens(alloc, bytes) else {
+/// The codes of the definitions of a module, shown, or the fault.
+pub fn module_shown(alloc: Global, text: &str) -> Result<String, AllocError> {
+    let Ok(tokens) = tokens(alloc, text.as_bytes()) else {
         return String::from_str(alloc, "no tokens");
     };
-    let Ok(module) = read(alloc, bytes, &tokens) else {
+    let Ok(module) = read(alloc, text.as_bytes(), &tokens) else {
         return String::from_str(alloc, "not read");
     };
-    match resolve(alloc, bytes, &module, &scope(alloc)?) {
+    match resolve(alloc, text.as_bytes(), &module, &scope(alloc)?) {
         Ok(codes) => defs_shown(alloc, codes.as_slice()),
-        Err(fault) => fault_shown(alloc, fault),
+        Err(fault) => format!(in alloc; "{fault:?}"),
     }
 }
 
+/// Each text is that of an expression.
 pub fn exps_are(rt: &impl Abort, alloc: Global, rows: &[Row]) -> Result<(), Fail> {
     for (text, wanted) in rows {
         let found = exp_shown(alloc, text)?;
@@ -74,9 +73,10 @@ pub fn exps_are(rt: &impl Abort, alloc: Global, rows: &[Row]) -> Result<(), Fail
 
 /// Each text is that of the definitions of a module.
 pub fn modules_are(rt: &impl Abort, alloc: Global, rows: &[Row]) -> Result<(), Fail> {
-    for (text, wanted) in rows {
-        let found = module_shown(alloc, text)?;
-        assert_eq!(rt; found.as_str(), *wanted, "of {text:?}");
+    for (defs, wanted) in rows {
+        let text = format!(in alloc; "module M where\n{defs}\n")?;
+        let found = module_shown(alloc, &text)?;
+        assert_eq!(rt; found.as_str(), *wanted, "of {defs:?}");
     }
     Ok(())
 }
