@@ -1,12 +1,12 @@
 -- The parts of terms that are literal forms, and the types that they were made at.
 use Rattle.std.specs.Prelude.{◌≡◌}
-use Rattle.trees.specs.declared.op.Op.TheVariants as op
-use Rattle.trees.specs.Trees.{Tree, Make, NoTrees, More, Subst, apply}
-use Rattle.trees.specs.Judgements.{Context, trees}
-use Rattle.rules.specs.Table.{glue_type, pathp, pi, sig, universe}
+use Rattle.trees.specs.Trees.{Tree, Subst, apply}
+use Rattle.trees.specs.Judgements.{Context}
 use Rattle.trees.specs.Language.{Sb}
 use Rattle.book.specs.Contents.{Contents}
+use Rattle.book.specs.declared.kernel.NodeId.{NodeId}
 use Rattle.typed_nodes.specs.Typed.{Says}
+use Rattle.literal_terms.specs.declared.forms.TermForm.{TermForm}
 use Rattle.literal_terms.specs.declared.forms.TermForm.TheVariants as form
 use Rattle.literal_terms.specs.Forms.{IsFormed, IsGlued, IsPaired}
 use Rattle.literal_terms.specs.Traces.{Fits}
@@ -14,13 +14,11 @@ use Rattle.presupposed.specs.declared.terms.OpenedTerm.{OpenedTerm}
 use Rattle.presupposed.specs.declared.terms.TermKids.{TermKids}
 use Rattle.presupposed.specs.declared.terms.TermKids.TheVariants as kids
 
--- the rule of t's operator types it at S
-abbrev pub IsOwnType : Tree → Tree → Type 0
-IsOwnType (Make op.Lam (More A (More b NoTrees))) S = (B : Tree) × (S ≡ pi trees A B)
-IsOwnType (Make op.Pair ts) S = (A B : Tree) × (S ≡ sig trees A B)
-IsOwnType (Make op.PLam ts) S = (A u v : Tree) × (S ≡ pathp trees A u v)
-IsOwnType (Make op.Glue (More p ts)) S = (A T w : Tree) × (S ≡ glue_type trees A p T w)
-IsOwnType _ S = S ≡ universe trees
+-- in G, t of type S is a form by its rule, under a substitution to where that was made
+abbrev pub IsMadeAt : Contents → Context → Tree → Tree → Type 0
+IsMadeAt b G t S =
+    (made : TermForm) × (sub : NodeId) × (K : Context) × (d : Subst) × (a A : Tree)
+    × Says b sub (Sb G d K) × IsFormed b made K a A × (t ≡ apply a d) × (S ≡ apply A d)
 
 -- the nodes are the parts of t of type S, in G
 abbrev pub AreKids : Contents → TermKids → Context → Tree → Tree → Type 0

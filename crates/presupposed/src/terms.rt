@@ -8,7 +8,7 @@ ghost use Rattle.book.specs.Shown.{Extends};
 ghost use Rattle.typed_nodes.specs.Typed.{Says};
 ghost use Rattle.literal_terms.specs.Forms.{IsFormed, is_literal};
 ghost use Rattle.literal_terms.specs.Traces.{Fits, IsLiteralTerm};
-ghost use Rattle.presupposed.specs.Terms.{AreKids, IsOpened, IsOwnType};
+ghost use Rattle.presupposed.specs.Terms.{AreKids, IsMadeAt, IsOpened};
 
 use crate::parts::last_entry;
 use crate::questions::context_of;
@@ -150,7 +150,7 @@ pub fn fits_of(alloc: Global, book: &mut Book, typing: NodeId) -> Result<Option<
     ensures extends { Extends book.old book.new }
     ensures fits { IfOk result (λ fits. (G : Context) (t T : Tree) →
         Says book.old typing (Tm G t T) → is_literal t ≡ true
-        → (S : Tree) × IsOwnType t S × Fits book.new fits G S T) }
+        → (S : Tree) × IsMadeAt book.new G t S × Fits book.new fits G S T) }
 {
     let term = made(alloc, book, typing)?;
     Ok(term.fits)
