@@ -93,7 +93,7 @@ def other_number(random, row):
 def changed_derivation(random, data):
     if random.randrange(8) == 0:
         return other_bytes(random, data)
-    rows = data.decode().splitlines()
+    rows = data.decode(errors="surrogateescape").splitlines()
     for _ in range(random.choice([1, 1, 2, 5])):
         at = random.randrange(len(rows) or 1)
         change = random.randrange(8)
@@ -106,7 +106,7 @@ def changed_derivation(random, data):
             rows = spliced(random, rows, rows or ["rules 1"])
         elif rows:
             rows[at] = other_number(random, rows[at])
-    return "".join(row + "\n" for row in rows).encode()
+    return "".join(row + "\n" for row in rows).encode(errors="surrogateescape")
 
 
 def copies(data, count):

@@ -260,6 +260,8 @@ class Typing:
             return {"nat": (NAT, U), "zero": (("zero",), NAT), "suc": (SUCCESSOR, ("pi", NAT, NAT))}[name]
         if entry.kind == "variable":
             return ("var", behind), weakened(entry.type, behind + 1)
+        if not entry.body:  # a name of the interval, or a definition that is known by its name alone
+            raise OutOfScope(name)
         return weakened(entry.body, behind), weakened(entry.type, behind)
 
     def head(self, place, head, elements):
