@@ -1,5 +1,10 @@
 #!/usr/bin/env python3
-"""Times `ctt replay` on nodes of each family of rules, at parts that depend on variables."""
+"""Times `ctt replay` on nodes of each family of rules, at parts that depend on variables.
+
+usage: python3 bench/rules.py PROGRAM [N] [RULE ..]
+
+A line tells a family's rows a second, and those of its slowest rule alone; with the names of rules, those of each of these alone.
+"""
 
 import os
 import pathlib
@@ -21,11 +26,24 @@ def seconds(program, path, file, lines):
     return min(spent for _, spent in runs)
 
 
+def time_rules(program, path, count, names):
+    """Tells how fast nodes of each of these rules alone are judged."""
+    for file in rule_cases.files():
+        uses, empty = file.uses(), seconds(program, path, file, [])
+        for name in (rule.name for family in file.families for rule in family.rules if rule.name in names):
+            spent = seconds(program, path, file, [" ".join(uses[name])] * count) - empty
+            print(f"{name:<12} {count / spent:>10.0f}")
+
+
 def main():
     program = os.path.abspath(sys.argv[1])
-    count = int(sys.argv[2]) if len(sys.argv) > 2 else 200_000
+    count = next((int(word) for word in sys.argv[2:] if word.isdigit()), 200_000)
+    names = [word for word in sys.argv[2:] if not word.isdigit()]
     with tempfile.TemporaryDirectory() as folder:
         path = pathlib.Path(folder, "rules.drv")
+        if names:
+            time_rules(program, path, count, names)
+            return
         print(f"{'family':>10} {'rows/s':>10}  {'slowest rule':<12} {'rows/s':>10}")
         for file in rule_cases.files():
             uses, empty = file.uses(), seconds(program, path, file, [])

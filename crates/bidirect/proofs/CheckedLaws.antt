@@ -22,7 +22,8 @@ use Rattle.bidirect.specs.declared.tasks.Tasks.{Tasks}
 use Rattle.bidirect.specs.States.{State, nothing, stated_at, with_known, after}
 use Rattle.bidirect.specs.Outcomes.{definition_typed}
 use Rattle.bidirect.specs.Steps.{IsState, IsStated}
-use Rattle.bidirect.specs.Checked.{Checks, Knows, Runs, ToDo, other_place, place_after}
+use Rattle.direct.specs.Direct.{other_place, place_after}
+use Rattle.bidirect.specs.Checked.{Checks, Knows, Runs, ToDo}
 use Rattle.bidirect.proofs.DefinitionLaws.{definition_law, definition_outcome, scope_after}
 
 -- one definition

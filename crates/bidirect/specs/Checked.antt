@@ -1,14 +1,13 @@
 -- What checking definitions in order finds.
-use Rattle.std.specs.Prelude.{◌≡◌, ◌+◌, ℕ, List, [], ◌∷◌, ◌++◌, reverse, Bool, true, false}
+use Rattle.std.specs.Prelude.{◌≡◌, ℕ, List, [], ◌++◌, reverse, Bool, true, false}
 use Rattle.std.specs.Prelude.{Option, None, Some}
-use Rattle.std.specs.Option.{option_map}
 use Rattle.std.specs.List.{AllZip}
 use Rattle.codes.specs.declared.code.CodeDef.{CodeDef}
 use Rattle.codes.specs.Codes.{definition, definitions}
 use Rattle.translation.specs.Translated.{Stated}
 use Rattle.book.specs.Contents.{Contents}
 use Rattle.direct.specs.Known.{Known}
-use Rattle.direct.specs.Direct.{def_typing}
+use Rattle.direct.specs.Direct.{other_place}
 use Rattle.bidirect.specs.declared.state.CheckState.{CheckState}
 use Rattle.bidirect.specs.declared.tasks.Task.{Task}
 use Rattle.bidirect.specs.declared.tasks.Tasks.{Tasks}
@@ -18,15 +17,6 @@ use Rattle.bidirect.specs.States.{State, stated_at}
 use Rattle.bidirect.specs.Outcomes.{definition_typed}
 use Rattle.bidirect.specs.Tasks.{Run}
 use Rattle.bidirect.specs.Steps.{IsStated, IsState}
-
--- the place of the first definition that is not direct after those before it
-abbrev pub place_after : (Known → Option ℕ) → Option Known → Option ℕ
-place_after others None = Some 0
-place_after others (Some G) = option_map (λ k. k + 1) (others G)
-
-abbrev pub other_place : List CodeDef → Known → Option ℕ
-other_place [] G = None
-other_place (d ∷ ds) G = place_after (other_place ds) (def_typing d G)
 
 -- All are direct, and the nodes conclude what they state; or this is the place of the first that
 -- is not.

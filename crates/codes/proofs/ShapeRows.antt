@@ -10,7 +10,7 @@ use Rattle.codes.specs.declared.code.Side.{Side as SideOf}
 use Rattle.codes.specs.declared.code.LineSide.{LineSide}
 use Rattle.codes.specs.declared.code.PairSide.{PairSide as PairSideOf}
 use Rattle.codes.specs.declared.code.CodeDef.{CodeDef, roll-CodeDef}
-use Rattle.codes.specs.Shapes.{Shape, Shapes, Leaf, Let, Pi, Sigma, Lambda, Apply, Tuple, Comp, Fill, GlueType, GlueTerm, Unglue, Binder, Side, PairSide, Def, none, more, shape, opened_shape, component_shapes, binder_shapes, element_shape, element_shapes, term_side_shapes, line_side_shapes, pair_side_shapes, def_shape, local_shapes, listed, of_binder, of_side, of_line_side, of_pair_side, lambda, apply}
+use Rattle.codes.specs.Shapes.{Shape, Shapes, On, Let, Pi, Sigma, Lambda, Apply, Tuple, Comp, Fill, GlueType, GlueTerm, Unglue, Binder, Side, PairSide, Def, none, more, shape, opened_shape, component_shapes, binder_shapes, element_shape, element_shapes, term_side_shapes, line_side_shapes, pair_side_shapes, def_shape, local_shapes, listed, of_binder, of_side, of_line_side, of_pair_side, lambda, apply}
 use Rattle.codes.proofs.Rows.{row_of-CodeDef, row_of-Binder, row_of-Element, row_of-Code, row_of-LineSide, row_of-PairSide, row_of-Side, row_under}
 
 locals_listed : (n : _) (row : Row_of-CodeDef n) → local_shapes row ≡ listed def_shape (items-the_row-CodeDef n row)
@@ -31,15 +31,15 @@ components_listed n (more_of-Code c rest) = ap (more (shape c)) (components_list
 
 term_sides_listed : (n : _) (row : Row_of-Side n) → term_side_shapes row ≡ listed of_side (items-the_row-Side n row)
 term_sides_listed n end_of-Side = refl
-term_sides_listed n (more_of-Side es s c rest) = ap (more (Side s (shape c))) (term_sides_listed _ rest)
+term_sides_listed n (more_of-Side es s c rest) = ap (more (On es.items (Side s (shape c)))) (term_sides_listed _ rest)
 
 line_sides_listed : (n : _) (row : Row_of-LineSide n) → line_side_shapes row ≡ listed of_line_side (items-the_row-LineSide n row)
 line_sides_listed n end_of-LineSide = refl
-line_sides_listed n (more_of-LineSide es l rest) = ap (more (opened_shape l)) (line_sides_listed _ rest)
+line_sides_listed n (more_of-LineSide es l rest) = ap (more (On es.items (opened_shape l))) (line_sides_listed _ rest)
 
 pair_sides_listed : (n : _) (row : Row_of-PairSide n) → pair_side_shapes row ≡ listed of_pair_side (items-the_row-PairSide n row)
 pair_sides_listed n end_of-PairSide = refl
-pair_sides_listed n (more_of-PairSide es s T w rest) = ap (more (PairSide s (shape T) (shape w))) (pair_sides_listed _ rest)
+pair_sides_listed n (more_of-PairSide es s T w rest) = ap (more (On es.items (PairSide s (shape T) (shape w)))) (pair_sides_listed _ rest)
 
 pub let_shape : (s : Span) (ds : Vec CodeDef Global) (c : Box Code Global) → shape (Let_ s ds c) ≡ Let s (listed def_shape ds.items) (shape c.value)
 let_shape s ds c =
@@ -118,8 +118,8 @@ some_items xs n l t e =
     let h : false ≡ true = t ∙ ap (λ m. m == 0) z in
     cc
 
-pub shape_of_def : (x : Span) (n : ℕ) (bs : Vec BinderOf Global) (t c : Code) → def_shape (roll-CodeDef (record { name = x; number = n; binders = bs; ty = t; body = c })) ≡ Def x (listed of_binder bs.items) (shape t) (shape c)
+pub shape_of_def : (x : Span) (n : ℕ) (bs : Vec BinderOf Global) (t c : Code) → def_shape (roll-CodeDef (record { name = x; number = n; binders = bs; ty = t; body = c })) ≡ Def x n (listed of_binder bs.items) (shape t) (shape c)
 unfolding roll-CodeDef denote.Hole.Carrier.roll
 shape_of_def x n bs t c =
     let row = row_under (roll-CodeDef (record { name = x; number = n; binders = bs; ty = t; body = c })) in
-    ap (λ xs. Def x xs (shape t) (shape c)) (binders_listed row.0 row.1 ∙ ap (listed of_binder) (items_hidden-the_row-Binder-1 bs))
+    ap (λ xs. Def x n xs (shape t) (shape c)) (binders_listed row.0 row.1 ∙ ap (listed of_binder) (items_hidden-the_row-Binder-1 bs))

@@ -1,12 +1,12 @@
--- What a code keeps of the text that it was made from: its forms, and the piece that each spells.
--- What names stand for is left out, and so are the equations of sides.
+-- A code without where its parts lie in memory: its forms, each with the piece of the text that it
+-- spells, and what its names stand for.
 use Rattle.std.specs.Prelude.{◌==◌, ℕ, List, [], ◌∷◌, if◌then◌else◌}
 use Rattle.layout_lexer.specs.declared.token.Span.{Span}
 use Rattle.syntax.specs.declared.formula.Projection.{Projection}
-use Rattle.syntax.specs.Tree as text
-use Rattle.codes.specs.declared.formula.Formula.{Formula, Zero as Zero', One as One'}
-use Rattle.codes.specs.declared.formula.Formula.{Bound as Bound', Negate', Meet', Join'}
-use Rattle.codes.specs.declared.code.Code.{Code, Bound, Defined, Let', Universe, Nat, Zero, Suc'}
+use Rattle.codes.specs.FormulaShapes.{FormulaShape, formula_shape}
+use Rattle.codes.specs.declared.formula.Equation.{Equation}
+use Rattle.codes.specs.declared.code.Code.{Code, Bound as Bound', Defined as Defined', Let'}
+use Rattle.codes.specs.declared.code.Code.{Universe as Universe', Nat as Nat', Zero as Zero', Suc'}
 use Rattle.codes.specs.declared.code.Code.{NatRec', Pi', Sigma', Lambda', PathLambda', Apply'}
 use Rattle.codes.specs.declared.code.Code.{Project', Tuple', PathP', Comp', Fill', Transport'}
 use Rattle.codes.specs.declared.code.Code.{GlueType', GlueTerm', Unglue'}
@@ -27,8 +27,12 @@ use Rattle.codes.specs.declared.code.PairSide.{PairSide as PairSideOf}
 
 mutual
   pub data Shape : Type 0 where
-    -- a name, or `U`
-    Leaf : Span → Shape
+    -- a variable, by its index, and a definition, by its number
+    Bound : Span → ℕ → Shape
+    Defined : Span → ℕ → Shape
+    Universe : Span → Shape
+    Nat : Span → Shape
+    Zero : Span → Shape
     Let : Span → Shapes → Shape → Shape
     Suc : Span → Shape → Shape
     NatRec : Span → Shape → Shape → Shape → Shape → Shape
@@ -47,38 +51,31 @@ mutual
     GlueTerm : Span → Shape → Shapes → Shape
     Unglue : Span → Shape → Shapes → Shape
     -- an element `@ formula`
-    At : Span → text.Formula → Shape
+    At : Span → FormulaShape → Shape
     -- so many variables, and their type
     Binder : ℕ → Shape → Shape
     -- a line or motive that was opened, and one that is applied
     Under : Span → Shape → Shape
     Applied : Span → Shape → Shape
-    -- what stands on a side of `glue`, and on one of `Glue` or `unglue`
+    -- a side of a system; and what stands on one of `glue`, and on one of `Glue` or `unglue`
+    On : List Equation → Shape → Shape
     Side : Span → Shape → Shape
     PairSide : Span → Shape → Shape → Shape
-    -- name, binders, type, body
-    Def : Span → Shapes → Shape → Shape → Shape
+    -- name, number, binders, type, body
+    Def : Span → ℕ → Shapes → Shape → Shape → Shape
 
   pub data Shapes : Type 0 where
     none : Shapes
     more : Shape → Shapes → Shapes
 
-abbrev pub formula_shape : Formula → text.Formula
-formula_shape (Zero' s) = text.Zero s
-formula_shape (One' s) = text.One s
-formula_shape (Bound' s k) = text.Variable s
-formula_shape (Negate' s p f) = text.Negate s (formula_shape f)
-formula_shape (Meet' s p f q g) = text.Meet s (formula_shape f) (formula_shape g)
-formula_shape (Join' s p f q g) = text.Join s (formula_shape f) (formula_shape g)
-
 abbrev mutual
   pub shape : Code → Shape
-  shape (Bound s k) = Leaf s
-  shape (Defined s n) = Leaf s
+  shape (Bound' s k) = Bound s k
+  shape (Defined' s n) = Defined s n
   shape (Let' s m ds p c) = Let s (local_shapes ds) (shape c)
-  shape (Universe s) = Leaf s
-  shape (Nat s) = Leaf s
-  shape (Zero s) = Leaf s
+  shape (Universe' s) = Universe s
+  shape (Nat' s) = Nat s
+  shape (Zero' s) = Zero s
   shape (Suc' s p c) = Suc s (shape c)
   shape (NatRec' s p m q a r b t n) = NatRec s (opened_shape m) (shape a) (shape b) (shape n)
   shape (Pi' s m bs p c) = Pi s (binder_shapes bs) (shape c)
@@ -118,19 +115,21 @@ abbrev mutual
 
   pub term_side_shapes : {m : _} → Row_of-Side m → Shapes
   term_side_shapes end_of-Side = none
-  term_side_shapes (more_of-Side es s c rest) = more (Side s (shape c)) (term_side_shapes rest)
+  term_side_shapes (more_of-Side es s c rest) =
+      more (On es.items (Side s (shape c))) (term_side_shapes rest)
 
   pub line_side_shapes : {m : _} → Row_of-LineSide m → Shapes
   line_side_shapes end_of-LineSide = none
-  line_side_shapes (more_of-LineSide es l rest) = more (opened_shape l) (line_side_shapes rest)
+  line_side_shapes (more_of-LineSide es l rest) =
+      more (On es.items (opened_shape l)) (line_side_shapes rest)
 
   pub pair_side_shapes : {m : _} → Row_of-PairSide m → Shapes
   pair_side_shapes end_of-PairSide = none
   pair_side_shapes (more_of-PairSide es s T w rest) =
-      more (PairSide s (shape T) (shape w)) (pair_side_shapes rest)
+      more (On es.items (PairSide s (shape T) (shape w))) (pair_side_shapes rest)
 
   pub def_shape : CodeDef → Shape
-  def_shape (CodeDef' x n m bs t c) = Def x (binder_shapes bs) (shape t) (shape c)
+  def_shape (CodeDef' x n m bs t c) = Def x n (binder_shapes bs) (shape t) (shape c)
 
   pub local_shapes : {m : _} → Row_of-CodeDef m → Shapes
   local_shapes end_of-CodeDef = none
@@ -146,13 +145,13 @@ abbrev pub of_binder : BinderOf → Shape
 of_binder b = Binder b.names (shape b.ty)
 
 abbrev pub of_side : TermSide → Shape
-of_side s = Side s.span (shape s.body)
+of_side s = On s.equations.items (Side s.span (shape s.body))
 
 abbrev pub of_line_side : LineSide → Shape
-of_line_side s = opened_shape s.body
+of_line_side s = On s.equations.items (opened_shape s.body)
 
 abbrev pub of_pair_side : PairSideOf → Shape
-of_pair_side s = PairSide s.span (shape s.ty) (shape s.equivalence)
+of_pair_side s = On s.equations.items (PairSide s.span (shape s.ty) (shape s.equivalence))
 
 -- Over nothing, and with no elements, a form is what stands in it.
 
@@ -169,4 +168,4 @@ apply s c (more e es) = Apply s c (more e es)
 
 -- `suc` without an argument: `\(x : nat) -> suc x`, all of it where `suc` stands
 abbrev pub successor : Span → Shape
-successor s = Lambda s (more (Binder 1 (Leaf s)) none) (Suc s (Leaf s))
+successor s = Lambda s (more (Binder 1 (Nat s)) none) (Suc s (Bound s 0))

@@ -416,7 +416,7 @@ impl CodeDef {
         ensures means { definition result ≡ define number
             (defined (map binder binders.items) (meaning ty) (λ G. done G) (meaning body)) }
         ensures shaped { def_shape result
-            ≡ a_def name (listed of_binder binders.items) (shape ty) (shape body) }
+            ≡ a_def name number (listed of_binder binders.items) (shape ty) (shape body) }
         ensures named { (out-CodeDef result).name ≡ name }
         ensures numbered { (out-CodeDef result).number ≡ number }
     {

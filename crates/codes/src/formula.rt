@@ -4,8 +4,12 @@ ghost use Rattle.std.specs.Prelude.{◌≡◌, IfOk};
 ghost use Rattle.translation.specs.Forms.{one, two};
 ghost use Rattle.translation.specs.Terms.{neg, min, max};
 ghost use Rattle.codes.specs.Codes.{formula as meaning};
-ghost use Rattle.syntax.specs.Tree.{Join as a_join, Meet as a_meet, Negate as a_negation};
-ghost use Rattle.codes.specs.Shapes.{formula_shape};
+ghost use Rattle.codes.specs.FormulaShapes.{
+  formula_shape,
+  Join as a_join,
+  Meet as a_meet,
+  Negate as a_negation,
+};
 
 use layout_lexer::Span;
 use std::alloc::{AllocError, Global};

@@ -1,6 +1,7 @@
 -- Direct codes: those that are typed by plain recursion, where types and ends are compared as trees
 -- alone.
-use Rattle.std.specs.Prelude.{◌≡◌, List, [], ◌∷◌, Option, None, Some, IsSome}
+use Rattle.std.specs.Prelude.{◌≡◌, ◌+◌, ℕ, List, [], ◌∷◌, Option, None, Some, IsSome}
+use Rattle.std.specs.Option.{option_map}
 use Rattle.codes.specs.declared.code.Code.{Code, Bound, Defined, Let', Universe, Nat, Zero, Suc'}
 use Rattle.codes.specs.declared.code.Code.{NatRec', Pi', Sigma', Lambda', PathLambda', Apply'}
 use Rattle.codes.specs.declared.code.Code.{Project', Tuple', PathP', Comp', Fill', Transport'}
@@ -104,6 +105,15 @@ IsDirect d G = IsSome (def_typing d G)
 abbrev pub first_other : List CodeDef → Known → Option CodeDef
 first_other [] G = None
 first_other (d ∷ ds) G = other_at d (def_typing d G) (first_other ds)
+
+-- the place of the first definition that is not direct after those before it
+abbrev pub place_after : (Known → Option ℕ) → Option Known → Option ℕ
+place_after others None = Some 0
+place_after others (Some G) = option_map (λ k. k + 1) (others G)
+
+abbrev pub other_place : List CodeDef → Known → Option ℕ
+other_place [] G = None
+other_place (d ∷ ds) G = place_after (other_place ds) (def_typing d G)
 
 -- all are direct
 abbrev pub AreDirect : List CodeDef → Type 0

@@ -1,14 +1,12 @@
 -- One module after another.
-use Rattle.std.proofs.Common.{◌≡◌, ◌<◌, ◌≤◌, ◌+◌, ℕ, zero, suc, Bool, List, [], ◌∷◌, ◌++◌, map, length, take, reverse, get_or, bytes_eq, refl, sym, ◌∙◌, ap, subst, arith, append_assoc, None}
-use Rattle.std.specs.List.{All, AllZip, flat_map, list_any}
-use Rattle.std.proofs.lemmas.List.{reverse-append, length-append, length-map, length-reverse}
+use Rattle.std.proofs.Common.{◌≡◌, ◌<◌, ◌≤◌, ◌+◌, ◌-◌, ℕ, zero, suc, Bool, true, false, if◌then◌else◌, List, [], ◌∷◌, ◌++◌, map, length, take, reverse, get_or, bytes_eq, refl, sym, ◌∙◌, ap, subst, arith, append_assoc, None}
+use Rattle.std.specs.List.{All, flat_map, list_any}
+use Rattle.std.proofs.lemmas.List.{get_or-reverse, reverse-append, reverse-reverse, length-append, length-map, length-reverse}
 use Rattle.std.proofs.lemmas.List.Concat.{flat_map-append}
-use Rattle.syntax.specs.declared.exp.Def.{Def}
-use Rattle.syntax.specs.View.{module_of, def_of, tree_list}
-use Rattle.syntax.proofs.Rows.{defs_of_items}
+use Rattle.syntax.specs.View.{module_of}
 use Rattle.trees.specs.Judgements.{Judgement}
 use Rattle.translation.specs.declared.fault.ScopeFault.{ScopeFault}
-use Rattle.translation.specs.Scopes.{Scope, context_of}
+use Rattle.translation.specs.Scopes.{Scope, Definition, context_of}
 use Rattle.translation.specs.Translated.{Translated, Stated, Refuses, done, ◌>>=◌, judgements_of}
 use Rattle.translation.specs.Names.{Word}
 use Rattle.translation.specs.Texts.{Written, block}
@@ -18,20 +16,20 @@ use Rattle.codes.specs.Shapes.{def_shape, listed}
 use Rattle.codes.proofs.Logs.{append_empty, judgements_append, map_append, then_assoc, then_same}
 use Rattle.scopes.specs.declared.scope.Scope.{Scope as ScopeOf}
 use Rattle.scopes.specs.declared.scope.ScopeName.{ScopeName}
-use Rattle.scopes.specs.Steps.{count_from}
+use Rattle.scopes.specs.Steps.{count_from, named_of}
 use Rattle.scopes.proofs.Moving.{count_append}
-use Rattle.readings.specs.Shaped.{Become, IsDef}
+use Rattle.readings.specs.Shaped.{Become, after_definition}
 use Rattle.module_texts.specs.declared.text.ModuleText.{ModuleText}
 use Rattle.module_texts.specs.Texts.{name_of, imports_of}
 use Rattle.resolver.specs.declared.resolving.Codes.{Codes}
-use Rattle.resolver.specs.Resolved.{AreCodes, AreEarlier, AreSpelt, Holds, IsFaultOf, IsTop, Leaves, bound_as, bound_by, entry, words, defs_in as codes_in}
+use Rattle.resolver.specs.Resolved.{AreCodes, AreEarlier, AreSpelt, Holds, IsFaultOf, IsTop, Leaves, bound_as, bound_by, definitions_of, entry, words, defs_in as codes_in}
 use Rattle.resolver.proofs.Leaving.{words_append, words_kept}
 use Rattle.linking.specs.declared.known.Known.{Known as Kept}
 use Rattle.linking.specs.declared.linked.Linker.{Linker}
-use Rattle.linking.specs.Modules.{Known, AreFine, RefusedFirst, and_known, defs_in, judgements, known_as, meaning_after, meanings, meanings_after, names_in, reached, read_defs}
-use Rattle.linking.specs.Reaching.{Stand, Sees, are_among, names_of}
-use Rattle.linking.specs.Linked.{HasLinked, IsLinked, Keeps, known_after, meaning_of_next}
-use Rattle.linking.proofs.ReachLaws.{all_append, all_one, names_push}
+use Rattle.linking.specs.Modules.{Known, AreFine, RefusedFirst, and_known, defs_in, judgements, known_as, meaning_after, meanings, meanings_after, names_in, reached}
+use Rattle.linking.specs.Reaching.{Numbered, Stand, Sees, are_among, names_of}
+use Rattle.linking.specs.Linked.{AllBecome, ModuleBecomes, HasLinked, IsLinked, Keeps, known_after, meaning_of_next, numbered_as, with_bodies}
+use Rattle.linking.proofs.ReachLaws.{all_append, all_one, names_push, take_more}
 
 counted : (n k : ℕ) → length (count_from n k) ≡ n
 counted zero k = refl
@@ -50,26 +48,12 @@ named_more f g ls rs all cs c is before here =
     ap (map f) is ∙ map_append f ls rs ∙ ap (λ ns. ns ++ map f rs) before ∙ ap (λ ns. flat_map g cs ++ ns) (here ∙ sym (append_empty (g c)))
     ∙ sym (flat_map-append g cs (c ∷ []))
 
-each_spelt : (ds : List Def) (cs : List CodeDef) → Become (tree_list def_of ds) (listed def_shape cs) → AllZip IsDef ds cs
-each_spelt [] [] h = tt
-each_spelt [] (c ∷ cs) h = absurd h
-each_spelt (d ∷ ds) [] h = absurd h
-each_spelt (d ∷ ds) (c ∷ cs) h = (record { becomes = h.0 }, each_spelt ds cs h.1)
-
-zip_append : {A B : Type 0} (R : A → B → Type 0) (xs vs : List A) (ys ws : List B) → AllZip R xs ys → AllZip R vs ws → AllZip R (xs ++ vs) (ys ++ ws)
-zip_append R [] vs [] ws h k = k
-zip_append R [] vs (y ∷ ys) ws h k = absurd h
-zip_append R (x ∷ xs) vs [] ws h k = absurd h
-zip_append R (x ∷ xs) vs (y ∷ ys) ws h k = (h.0, zip_append R xs vs ys ws h.1 k)
-
-spelt_more : (before : List ModuleText) (x : ModuleText) (cs all : List CodeDef) (codes : Codes) → all ≡ cs ++ codes_in codes → AllZip IsDef (flat_map read_defs before) cs
-    → AreSpelt (module_of x.module) codes → AllZip IsDef (flat_map read_defs (before ++ x ∷ [])) all
-spelt_more before x cs all codes is h k =
-    let here = each_spelt (read_defs x) (codes_in codes) (subst (λ ds. Become ds (listed def_shape (codes_in codes))) (defs_of_items x.module.defs) k) in
-    let texts : flat_map read_defs (before ++ x ∷ []) ≡ flat_map read_defs before ++ read_defs x =
-    flat_map-append read_defs before (x ∷ []) ∙ ap (λ ds. flat_map read_defs before ++ ds) (append_empty (read_defs x)) in
-    subst (λ ds. AllZip IsDef ds all) (sym texts)
-    (subst (AllZip IsDef (flat_map read_defs before ++ read_defs x)) (sym is) (zip_append IsDef (flat_map read_defs before) (read_defs x) cs (codes_in codes) h here))
+become_more : (known : List Numbered) (xs : List ModuleText) (x : ModuleText) (cs ds all : List CodeDef) (last : List Numbered) → all ≡ cs ++ ds
+    → AllBecome known xs cs last → ModuleBecomes last x ds → AllBecome known (xs ++ x ∷ []) all (numbered_as x ds ∷ last)
+become_more known [] x cs ds all last is h k =
+    (ds, [], is ∙ ap (λ es. es ++ ds) h.0 ∙ sym (append_empty ds), subst (λ ns. ModuleBecomes ns x ds) h.1 k, (refl, ap (λ ns. numbered_as x ds ∷ ns) h.1))
+become_more known (y ∷ ys) x cs ds all last is (first, rest, split, here, others) k =
+    (first, rest ++ ds, is ∙ ap (λ es. es ++ ds) split ∙ append_assoc first rest ds, here, become_more (numbered_as y first ∷ known) ys x rest ds (rest ++ ds) last refl others k)
 
 known_more : (known : List Known) (xs : List ModuleText) (x : ModuleText) → known_after known (xs ++ x ∷ []) ≡ and_known (known_after known xs) x
 known_more known [] x = refl
@@ -95,56 +79,106 @@ length_meanings : (known : List Known) (xs : List ModuleText) → length (meanin
 length_meanings known [] = refl
 length_meanings known (x ∷ xs) = let h = length_meanings (and_known known x) xs in omega arith
 
--- what is kept stands for the same as definitions are added
-stand_kept : (H K : Scope ℕ) (next more : ℕ) (ms : List Known) (ks : List Kept) → ((n : ℕ) → n < next → body_of K n ≡ body_of H n) → next ≤ more
-    → Stand H next ms ks → Stand K more ms ks
-stand_kept H K next more [] [] kept l h = tt
-stand_kept H K next more [] (k ∷ ks) kept l h = absurd h
-stand_kept H K next more (m ∷ ms) [] kept l h = absurd h
-stand_kept H K next more (m ∷ ms) (k ∷ ks) kept l h =
-    (h.0, h.1 ∙ words_kept H K next k.names kept h.2, (λ i d within. let below = h.2 i d within in omega arith), stand_kept H K next more ms ks kept l h.3)
+-- modules by their numbers, and by what their texts mean
+
+all_reversed : {A : Type 0} (P : A → Type 0) (xs : List A) → All P xs → All P (reverse xs)
+all_reversed P xs h k d l =
+    let within : k < length xs = subst (λ n. k < n) (length-reverse xs) l in
+    subst P (sym (get_or-reverse xs k d within)) (h (length xs - 1 - k) d (omega arith))
+
+bodies_kept : (H K : Scope ℕ) (next : ℕ) (ds : List ScopeName) → ((n : ℕ) → n < next → body_of K n ≡ body_of H n) → AreEarlier next ds → map (entry K) ds ≡ map (entry H) ds
+bodies_kept H K next ds kept e =
+    ap (map (entry K)) (sym (reverse-reverse ds))
+    ∙ sym (words_kept H K next (reverse ds) kept (all_reversed (λ n. n.def < next) ds e))
+    ∙ ap (map (entry H)) (reverse-reverse ds)
+
+all_kept : (H K : Scope ℕ) (next : ℕ) (ms : List Numbered) → ((n : ℕ) → n < next → body_of K n ≡ body_of H n) → All (λ (m : Numbered). AreEarlier next m.defs) ms
+    → map (with_bodies K) ms ≡ map (with_bodies H) ms
+all_kept H K next [] kept e = refl
+all_kept H K next (m ∷ ms) kept e =
+    ap (λ ds. record { name = m.name; imports = m.imports; defs = ds } ∷ map (with_bodies K) ms) (bodies_kept H K next m.defs kept (e 0 m (omega arith)))
+    ∙ ap (λ xs. with_bodies H m ∷ xs) (all_kept H K next ms kept (λ i f l. e (suc i) f (omega arith)))
+
+later : (next more : ℕ) (ms : List Numbered) → next ≤ more → All (λ (m : Numbered). AreEarlier next m.defs) ms → All (λ (m : Numbered). AreEarlier more m.defs) ms
+later next more ms l e i d within j f inner = let h = e i d within j f inner in omega arith
+
+names_same : (H : Scope ℕ) (ms : List Numbered) → names_of (map (with_bodies H) ms) ≡ names_of ms
+names_same H [] = refl
+names_same H (m ∷ ms) =
+    names_push (with_bodies H m) (map (with_bodies H) ms) ∙ ap (λ ns. ns ++ m.name ∷ []) (names_same H ms) ∙ sym (names_push m ms)
+
+reached_bodies : (H : Scope ℕ) (ms : List Numbered) (names : List (List ℕ)) → reached (map (with_bodies H) ms) names ≡ map (entry H) (reached ms names)
+reached_bodies H [] names = refl
+reached_bodies H (m ∷ ms) names =
+    elim (list_any (bytes_eq m.name) names) as (λ v. (if v then map (entry H) m.defs ++ reached (map (with_bodies H) ms) (names ++ m.imports) else reached (map (with_bodies H) ms) names)
+    ≡ map (entry H) (if v then m.defs ++ reached ms (names ++ m.imports) else reached ms names)) [
+      | true ↦ ap (λ es. map (entry H) m.defs ++ es) (reached_bodies H ms (names ++ m.imports)) ∙ sym (map_append (entry H) m.defs (reached ms (names ++ m.imports)))
+      | false ↦ reached_bodies H ms names
+    ]
+
+reached_earlier : (next : ℕ) (ms : List Numbered) (names : List (List ℕ)) → All (λ (m : Numbered). AreEarlier next m.defs) ms → AreEarlier next (reached ms names)
+reached_earlier next [] names e = λ k d l. absurd (omega arith)
+reached_earlier next (m ∷ ms) names e =
+    let rest : All (λ (x : Numbered). AreEarlier next x.defs) ms = λ i f l. e (suc i) f (omega arith) in
+    elim (list_any (bytes_eq m.name) names) as (λ v. AreEarlier next (if v then m.defs ++ reached ms (names ++ m.imports) else reached ms names)) [
+      | true ↦ all_append (λ n. n.def < next) m.defs (reached ms (names ++ m.imports)) (e 0 m (omega arith)) (reached_earlier next ms (names ++ m.imports) rest)
+      | false ↦ reached_earlier next ms names rest
+    ]
 
 pub starts : (s : Linker) → codes_in s.codes ≡ [] → s.codes.next ≡ 0 → s.known.items ≡ [] → HasLinked [] s
 starts s none next known = record {
   linked = record {
     fine = λ k d l. absurd (omega arith);
     judgements_are = ap (λ cs. judgements_of (definitions cs []).stated) none;
-    spelt = subst (AllZip IsDef []) (sym none) tt;
+    known = [];
+    spelt = (none, refl);
     named = ap (map (λ c. (out-CodeDef c).name)) none;
     numbered = ap (λ cs. map (λ (d : Stated ℕ). d.name) (definitions cs []).stated) none ∙ sym (ap (λ cs. count_from (length (definitions cs []).stated) 0) none);
     next_is = next ∙ sym (ap (λ cs. length (definitions cs []).stated) none);
   };
   top = ap (λ cs. context_of (definitions cs []).value) none;
-  stand = subst (λ ks. Stand (definitions (codes_in s.codes) []).value s.codes.next [] (reverse ks)) (sym known) tt;
+  stand = subst (λ ks. Stand [] (reverse ks)) (sym known) tt;
+  earlier = λ k d l. absurd (omega arith);
+  known_are = refl;
 }
 
 module _ (before : List ModuleText) (x : ModuleText) (s : Linker) (h : HasLinked before s) where
-  ms : List Known
-  ms = known_after [] before
+  named_before : names_of h.linked.known ≡ map name_of before
+  named_before =
+      let H = (definitions (codes_in s.codes) []).value in
+      sym (names_same H h.linked.known) ∙ sym (ap (λ (ms : List Known). names_of ms) h.known_are) ∙ names_known [] before
 
-  pub wants : (flags : List Bool) → flags ≡ are_among (imports_of x) (map name_of before) → flags ≡ are_among (imports_of x) (names_of (known_after [] before))
-  wants flags e = e ∙ ap (are_among (imports_of x)) (sym (names_known [] before))
+  pub wants : (flags : List Bool) → flags ≡ are_among (imports_of x) (map name_of before) → flags ≡ are_among (imports_of x) (names_of h.linked.known)
+  wants flags e = e ∙ ap (are_among (imports_of x)) (sym named_before)
 
   module _ (flags : List Bool) (scope : ScopeOf) (are : flags ≡ are_among (imports_of x) (map name_of before)) (sees : Sees s.known.items flags s.codes.next scope) where
     H : Scope ℕ
     H = (definitions (codes_in s.codes) []).value
 
-    seen : (words (definitions (codes_in s.codes) []).value scope.names ≡ reached (known_after [] before) (imports_of x)) × AreEarlier s.codes.next scope.names
-    seen = sees.sees (definitions (codes_in s.codes) []).value (known_after [] before) (imports_of x) h.stand (wants flags are)
+    by_numbers : reverse scope.names ≡ reached h.linked.known (imports_of x)
+    by_numbers = sees.sees h.linked.known (imports_of x) h.stand (wants flags are)
+
+    seen : words (definitions (codes_in s.codes) []).value scope.names ≡ reached (known_after [] before) (imports_of x)
+    seen =
+        let H = (definitions (codes_in s.codes) []).value in
+        ap (map (entry H)) by_numbers ∙ sym (reached_bodies H h.linked.known (imports_of x)) ∙ sym (ap (λ (ms : List Known). reached ms (imports_of x)) h.known_are)
 
     pub scope_earlier : AreEarlier scope.next scope.names
-    scope_earlier = subst (λ n. AreEarlier n scope.names) (sym sees.next_is) seen.1
+    scope_earlier =
+        subst (λ n. AreEarlier n scope.names) (sym sees.next_is)
+        (subst (AreEarlier s.codes.next) (reverse-reverse scope.names)
+        (all_reversed (λ n. n.def < s.codes.next) (reverse scope.names) (subst (AreEarlier s.codes.next) (sym by_numbers) (reached_earlier s.codes.next h.linked.known (imports_of x) h.earlier))))
 
     spelt : Translated Word (Scope Word)
     spelt = block x.bytes.items (defs_in x) (words H scope.names)
 
     is_meaning : block x.bytes.items (defs_in x) (words (definitions (codes_in s.codes) []).value scope.names) ≡ meaning_of_next before x
-    is_meaning = ap (block x.bytes.items (defs_in x)) seen.0
+    is_meaning = ap (block x.bytes.items (defs_in x)) seen
 
     pub refused_next : (fault : ScopeFault) → IsFaultOf x.bytes.items scope.names (module_of x.module) fault → Refuses fault (meaning_of_next before x).refusal
     refused_next fault is = subst (λ m. Refuses fault m.refusal) is_meaning (is (definitions (codes_in s.codes) []).value h.top)
 
-    module _ (codes : Codes) (new : Linker) (resolved : AreCodes x.bytes.items scope.names scope.next (module_of x.module) codes) (shaped : AreSpelt (module_of x.module) codes) (kept : Keeps x flags codes s new) where
+    module _ (codes : Codes) (new : Linker) (resolved : AreCodes x.bytes.items scope.names scope.next (module_of x.module) codes) (shaped : AreSpelt x.bytes.items scope.names (module_of x.module) codes) (kept : Keeps x flags codes s new) where
       first : Translated ℕ (Scope ℕ)
       first = definitions (codes_in s.codes) []
 
@@ -194,7 +228,9 @@ module _ (before : List ModuleText) (x : ModuleText) (s : Linker) (h : HasLinked
             ∙ ap (λ js. js ++ judgements_of second.stated) h.linked.judgements_are
             ∙ ap (λ js. judgements before ++ js) (holds.judgements ∙ ap (λ m. judgements_of m.stated) is_meaning)
             ∙ sym judgements_more;
-        spelt = spelt_more before x (codes_in s.codes) (codes_in new.codes) codes kept.defs_are h.linked.spelt shaped;
+        known = numbered_as x (codes_in codes) ∷ h.linked.known;
+        spelt = become_more [] before x (codes_in s.codes) (codes_in codes) (codes_in new.codes) h.linked.known kept.defs_are h.linked.spelt
+            (subst (λ ns. Become x.bytes.items (after_definition x.bytes.items) (definitions_of (module_of x.module)) (map named_of ns) (listed def_shape (codes_in codes))) by_numbers shaped);
         named = named_more (λ c. (out-CodeDef c).name) names_in (codes_in s.codes) (codes_in codes) (codes_in new.codes) before x kept.defs_are h.linked.named resolved.named;
         numbered =
             let together = length-append first.stated second.stated in
@@ -212,12 +248,10 @@ module _ (before : List ModuleText) (x : ModuleText) (s : Linker) (h : HasLinked
             ∙ (let n = next in let c = count in omega arith) ∙ sym together ∙ sym (ap (λ m. length m.stated) all_is);
       }
 
-      last : Known
-      last = known_as x (meaning_of_next before x).value
-
-      defs_kept : (known_as x (meaning_of_next before x).value).defs ≡ words (definitions (codes_in codes) (definitions (codes_in s.codes) []).value).value kept.known.names
+      -- the module by what its text means
+      here_is : known_as x (meaning_of_next before x).value ≡ with_bodies (definitions (codes_in codes) (definitions (codes_in s.codes) []).value).value (numbered_as x (codes_in codes))
       unfolding spelt H
-      defs_kept =
+      here_is =
           let K = (definitions (codes_in codes) (definitions (codes_in s.codes) []).value).value in
           let bound = bound_by x.bytes.items (codes_in codes) in
           let value : (meaning_of_next before x).value ≡ words K bound ++ words K scope.names =
@@ -225,27 +259,34 @@ module _ (before : List ModuleText) (x : ModuleText) (s : Linker) (h : HasLinked
           let long : length (defs_in x) ≡ length (words K bound) =
           sym (length-map (defs_in x) (λ (d : Written). d.name)) ∙ sym (ap length resolved.named) ∙ length-map (codes_in codes) (λ c. (out-CodeDef c).name)
           ∙ sym (length-map (codes_in codes) (bound_as x.bytes.items)) ∙ sym (length-reverse bound) ∙ sym (length-map (reverse bound) (entry K)) in
-          ap (take (length (defs_in x))) value ∙ take_front (words K bound) (words K scope.names) (length (defs_in x)) long ∙ ap (words K) (sym kept.names_are)
+          ap (λ ds. record { name = name_of x; imports = imports_of x; defs = ds })
+          (ap (take (length (defs_in x))) value ∙ take_front (words K bound) (words K scope.names) (length (defs_in x)) long)
 
-      stand : Stand (definitions (codes_in new.codes) []).value new.codes.next (known_after [] (before ++ x ∷ [])) (reverse new.known.items)
-      stand =
+      pub links : HasLinked (before ++ x ∷ []) new
+      unfolding first second linked
+      links =
+          let H = (definitions (codes_in s.codes) []).value in
           let K = (definitions (codes_in codes) (definitions (codes_in s.codes) []).value).value in
+          let mine = codes_in codes in
+          let bound = bound_by x.bytes.items mine in
           let next_new : new.codes.next ≡ scope.next + length (block x.bytes.items (defs_in x) (words (definitions (codes_in s.codes) []).value scope.names)).stated =
           kept.next_is ∙ resolved.counted (definitions (codes_in s.codes) []).value h.top in
           let same : K ≡ (definitions (codes_in new.codes) []).value = sym (ap (λ m. m.value) all_is) in
-          let one : Stand K new.codes.next (and_known (known_after [] before) x) (kept.known ∷ reverse s.known.items) = (
-            kept.imports_are ∙ wants flags are,
-            defs_kept,
-            subst (AreEarlier new.codes.next) (sym kept.names_are) (subst (λ n. AreEarlier n (bound_by x.bytes.items (codes_in codes))) (sym next_new) leaves.below),
-            stand_kept (definitions (codes_in s.codes) []).value K s.codes.next new.codes.next (known_after [] before) (reverse s.known.items)
-                (λ n l. leaves.kept n (let e = sees.next_is in omega arith)) (let e = next_new in let d = sees.next_is in omega arith) h.stand,
-          ) in
-          subst (λ G. Stand G new.codes.next (known_after [] (before ++ x ∷ [])) (reverse new.known.items)) same
-          (subst (λ m. Stand K new.codes.next m (reverse new.known.items)) (sym (known_more [] before x))
-          (subst (Stand K new.codes.next (and_known (known_after [] before) x)) (sym (ap reverse kept.all_known ∙ reverse-append s.known.items (kept.known ∷ []))) one))
-
-      pub links : HasLinked (before ++ x ∷ []) new
-      links = record { linked = linked; top = ap (λ m. context_of m.value) all_is ∙ leaves.top; stand = stand }
+          let below : AreEarlier new.codes.next (reverse bound) = all_reversed (λ n. n.def < new.codes.next) bound (subst (λ n. AreEarlier n bound) (sym next_new) leaves.below) in
+          let bodies : known_after [] (before ++ x ∷ []) ≡ map (with_bodies K) (numbered_as x mine ∷ h.linked.known) =
+          known_more [] before x ∙ ap (λ m. m ∷ known_after [] before) here_is
+          ∙ ap (λ (ms : List Known). with_bodies K (numbered_as x mine) ∷ ms) (h.known_are
+          ∙ sym (all_kept H K s.codes.next h.linked.known (λ n l. leaves.kept n (let e = sees.next_is in omega arith)) h.earlier)) in
+          record {
+            linked = linked;
+            top = ap (λ m. context_of m.value) all_is ∙ leaves.top;
+            stand = subst (Stand (numbered_as x mine ∷ h.linked.known)) (sym (ap reverse kept.all_known ∙ reverse-append s.known.items (kept.known ∷ [])))
+                (kept.imports_are ∙ wants flags are, ap reverse (sym kept.names_are), h.stand);
+            earlier = all_append (λ (m : Numbered). AreEarlier new.codes.next m.defs) (numbered_as x mine ∷ []) h.linked.known
+                (all_one (λ (m : Numbered). AreEarlier new.codes.next m.defs) (numbered_as x mine) below)
+                (later s.codes.next new.codes.next h.linked.known (let e = next_new in let d = sees.next_is in omega arith) h.earlier);
+            known_are = bodies ∙ ap (λ G. map (with_bodies G) (numbered_as x mine ∷ h.linked.known)) same;
+          }
 
 -- what is seen, of the same
 pub seen_of : {known ks : List Kept} {flags fs : List Bool} {next n : ℕ} {scope : ScopeOf} → ks ≡ known → fs ≡ flags → n ≡ next → Sees ks fs n scope → Sees known flags next scope
@@ -254,11 +295,11 @@ seen_of {known} {ks} {flags} {fs} {next} {n} {scope} e d c s =
 
 -- as many modules are kept as are known
 
-stand_length : (H : Scope ℕ) (next : ℕ) (ms : List Known) (ks : List Kept) → Stand H next ms ks → length ms ≡ length ks
-stand_length H next [] [] h = refl
-stand_length H next [] (k ∷ ks) h = absurd h
-stand_length H next (m ∷ ms) [] h = absurd h
-stand_length H next (m ∷ ms) (k ∷ ks) h = let l = stand_length H next ms ks h.3 in omega arith
+stand_length : (ms : List Numbered) (ks : List Kept) → Stand ms ks → length ms ≡ length ks
+stand_length [] [] h = refl
+stand_length [] (k ∷ ks) h = absurd h
+stand_length (m ∷ ms) [] h = absurd h
+stand_length (m ∷ ms) (k ∷ ks) h = let l = stand_length ms ks h.2 in omega arith
 
 known_length : (known : List Known) (xs : List ModuleText) → length (known_after known xs) ≡ length known + length xs
 known_length known [] = omega arith
@@ -266,10 +307,20 @@ known_length known (x ∷ xs) = let h = known_length (and_known known x) xs in o
 
 pub kept_length : (before : List ModuleText) (s : Linker) (names : List (List ℕ)) → HasLinked before s → length (are_among names (map name_of before)) ≡ length s.known.items
 kept_length before s names h =
-    let a = stand_length (definitions (codes_in s.codes) []).value s.codes.next (known_after [] before) (reverse s.known.items) h.stand in
-    let b = known_length [] before in
+    let H = (definitions (codes_in s.codes) []).value in
+    let a = stand_length h.linked.known (reverse s.known.items) h.stand in
+    let b : length h.linked.known ≡ length (known_after [] before) = sym (length-map h.linked.known (with_bodies H)) ∙ sym (ap length h.known_are) in
+    let d = known_length [] before in
     let c = length-reverse s.known.items in
     length-map (map name_of before) (λ x. list_any (bytes_eq x) names) ∙ length-map before name_of ∙ (omega arith)
+
+-- so many modules, and the next
+pub next_linked : (texts front : List ModuleText) (at : ℕ) (x : ModuleText) (s : Linker) → at < length texts → front ≡ take at texts → x ≡ get_or texts at x
+    → HasLinked (front ++ x ∷ []) s → HasLinked (take (at + 1) texts) s
+next_linked texts front at x s l f e h =
+    let more : suc at ≡ at + 1 = omega arith in
+    subst (λ ts. HasLinked ts s)
+    (ap (λ b. b ++ x ∷ []) f ∙ ap (λ y. take at texts ++ y ∷ []) e ∙ sym (take_more texts at x l) ∙ ap (λ n. take n texts) more) h
 
 -- the first that is refused
 

@@ -6,16 +6,12 @@ use Rattle.std.specs.declared.alloc.Global.{Global}
 use Rattle.std.proofs.lemmas.List.{reverse-append, length-append, length-map, length-reverse}
 use Rattle.std.proofs.lemmas.List.Concat.{flat_map-append}
 use denote.Ref.{Bor}
-use Rattle.translation.specs.Scopes.{Scope}
-use Rattle.translation.specs.Names.{Word}
 use Rattle.codes.proofs.Logs.{append_empty, map_append}
 use Rattle.scopes.specs.declared.scope.Scope.{Scope as ScopeOf}
 use Rattle.scopes.specs.declared.scope.ScopeName.{ScopeName}
-use Rattle.resolver.specs.Resolved.{AreEarlier, words}
-use Rattle.resolver.proofs.Leaving.{words_append}
 use Rattle.linking.specs.declared.known.Known.{Known as Kept}
-use Rattle.linking.specs.Modules.{Known, reached}
-use Rattle.linking.specs.Reaching.{Stand, Finds, Sees, are_among, either, names_of}
+use Rattle.linking.specs.Modules.{KnownBy, reached}
+use Rattle.linking.specs.Reaching.{Numbered, Stand, Finds, Sees, are_among, either, names_of}
 
 -- lists
 
@@ -37,15 +33,6 @@ all_append P (x ∷ xs) ys a b (suc k) d l = all_append P xs ys (λ i e m. a (su
 pub all_one : {A : Type 0} (P : A → Type 0) (x : A) → P x → All P (x ∷ [])
 all_one P x p zero d l = p
 all_one P x p (suc k) d l = absurd (omega arith)
-
-pub all_first : {A : Type 0} (P : A → Type 0) (xs ys : List A) → All P (xs ++ ys) → All P xs
-all_first P [] ys a k d l = absurd (omega arith)
-all_first P (x ∷ xs) ys a zero d l = a 0 d (omega arith)
-all_first P (x ∷ xs) ys a (suc k) d l = all_first P xs ys (λ i e m. a (suc i) e (omega arith)) k d (omega arith)
-
-pub all_last : {A : Type 0} (P : A → Type 0) (xs : List A) (x : A) → All P (xs ++ x ∷ []) → P x
-all_last P [] x a = a 0 x (omega arith)
-all_last P (y ∷ xs) x a = all_last P xs x (λ i e m. a (suc i) e (omega arith))
 
 -- what is wanted
 
@@ -112,30 +99,29 @@ written_whole n new ws e = take_first n new (drop (length new) ws) e
     take_first zero (x ∷ xs) ys e = absurd (omega arith)
     take_first (suc n) (x ∷ xs) ys e = ap (λ zs. x ∷ zs) (take_first n xs ys (omega arith))
 
-pub names_push : (m : Known) (ms : List Known) → names_of (m ∷ ms) ≡ names_of ms ++ m.name ∷ []
-names_push m ms = ap (map (λ (x : Known). x.name)) (reverse-append (m ∷ []) ms) ∙ map_append (λ (x : Known). x.name) (reverse ms) (m ∷ [])
+pub names_push : {A : Type 0} (m : KnownBy A) (ms : List (KnownBy A)) → names_of (m ∷ ms) ≡ names_of ms ++ m.name ∷ []
+names_push {A} m ms = ap (map (λ (x : KnownBy A). x.name)) (reverse-append (m ∷ []) ms) ∙ map_append (λ (x : KnownBy A). x.name) (reverse ms) (m ∷ [])
 
-among_push : (names : List (List ℕ)) (m : Known) (ms : List Known) → are_among names (names_of (m ∷ ms)) ≡ are_among names (names_of ms) ++ list_any (bytes_eq m.name) names ∷ []
+among_push : (names : List (List ℕ)) (m : Numbered) (ms : List Numbered) → are_among names (names_of (m ∷ ms)) ≡ are_among names (names_of ms) ++ list_any (bytes_eq m.name) names ∷ []
 among_push names m ms = ap (are_among names) (names_push m ms) ∙ map_append (λ x. list_any (bytes_eq x) names) (names_of ms) (m.name ∷ [])
 
 -- the definitions of modules
-abbrev pub all_words : Scope ℕ → List (Bor Kept) → Scope Word
-all_words H = flat_map (λ (k : Bor Kept). words H k.now.names)
+abbrev pub all_names : List (Bor Kept) → List ScopeName
+all_names = flat_map (λ (k : Bor Kept). reverse k.now.names)
 
 -- Of modules that are wanted some were found; with those that the others reach they are all.
-pub record Left (H : Scope ℕ) (next : ℕ) (known : List Kept) (wanted : List Bool) (found : List (Bor Kept)) (ms : List Known) (names : List (List ℕ)) : Type 0 where
-  pub rest : List Known
+pub record Left (known : List Kept) (wanted : List Bool) (found : List (Bor Kept)) (ms : List Numbered) (names : List (List ℕ)) : Type 0 where
+  pub rest : List Numbered
   pub wants : List (List ℕ)
-  pub stand : Stand H next rest (reverse (take (length wanted) known))
+  pub stand : Stand rest (reverse (take (length wanted) known))
   pub wanted_are : wanted ≡ are_among wants (names_of rest)
-  pub all : all_words H found ++ reached rest wants ≡ reached ms names
-  pub earlier : All (λ (k : Bor Kept). AreEarlier next k.now.names) found
+  pub all : all_names found ++ reached rest wants ≡ reached ms names
 
 pub record Goes (known : List Kept) (first : List Bool) (wanted : List Bool) (found : List (Bor Kept)) : Type 0 where
   pub within : length wanted ≤ length known
-  pub left : (H : Scope ℕ) (next : ℕ) (ms : List Known) (names : List (List ℕ))
-      → Stand H next ms (reverse known) → first ≡ are_among names (names_of ms)
-      → Left H next known wanted found ms names
+  pub left : (ms : List Numbered) (names : List (List ℕ))
+      → Stand ms (reverse known) → first ≡ are_among names (names_of ms)
+      → Left known wanted found ms names
 
 take_all : {A : Type 0} (xs : List A) (n : ℕ) → n ≡ length xs → take n xs ≡ xs
 take_all [] zero e = refl
@@ -143,7 +129,7 @@ take_all [] (suc n) e = refl
 take_all (x ∷ xs) zero e = absurd (omega arith)
 take_all (x ∷ xs) (suc n) e = ap (λ ys. x ∷ ys) (take_all xs n (omega arith))
 
-take_more : {A : Type 0} (xs : List A) (n : ℕ) (d : A) → n < length xs → take (suc n) xs ≡ take n xs ++ get_or xs n d ∷ []
+pub take_more : {A : Type 0} (xs : List A) (n : ℕ) (d : A) → n < length xs → take (suc n) xs ≡ take n xs ++ get_or xs n d ∷ []
 take_more [] n d l = absurd (omega arith)
 take_more (x ∷ xs) zero d l = refl
 take_more (x ∷ xs) (suc n) d l = ap (λ ys. x ∷ ys) (take_more xs n d (omega arith))
@@ -155,29 +141,27 @@ no_more xs (suc n) e = absurd (omega arith)
 pub goes_start : (known : List Kept) (wanted : List Bool) → length wanted ≡ length known → Goes known wanted wanted []
 goes_start known wanted e = record {
   within = omega arith;
-  left = λ H next ms names stand are. record {
+  left = λ ms names stand are. record {
     rest = ms;
     wants = names;
-    stand = subst (λ ks. Stand H next ms (reverse ks)) (sym (take_all known (length wanted) e)) stand;
+    stand = subst (λ ks. Stand ms (reverse ks)) (sym (take_all known (length wanted) e)) stand;
     wanted_are = are;
     all = refl;
-    earlier = λ k d l. absurd (omega arith);
   };
 }
 
 -- a module that stands last, and those before it
-record Split (H : Scope ℕ) (next : ℕ) (rest : List Known) (k : Kept) (ks : List Kept) : Type 0 where
-  last : Known
-  before : List Known
+record Split (rest : List Numbered) (k : Kept) (ks : List Kept) : Type 0 where
+  last : Numbered
+  before : List Numbered
   are : rest ≡ last ∷ before
   imports : k.imports.items ≡ are_among last.imports (names_of before)
-  defs : last.defs ≡ words H k.names
-  earlier : AreEarlier next k.names
-  stand : Stand H next before ks
+  defs : last.defs ≡ reverse k.names
+  stand : Stand before ks
 
-split : (H : Scope ℕ) (next : ℕ) (rest : List Known) (k : Kept) (ks : List Kept) → Stand H next rest (k ∷ ks) → Split H next rest k ks
-split H next [] k ks h = absurd h
-split H next (m ∷ ms) k ks h = record { last = m; before = ms; are = refl; imports = h.0; defs = h.1; earlier = h.2; stand = h.3 }
+split : (rest : List Numbered) (k : Kept) (ks : List Kept) → Stand rest (k ∷ ks) → Split rest k ks
+split [] k ks h = absurd h
+split (m ∷ ms) k ks h = record { last = m; before = ms; are = refl; imports = h.0; defs = h.1; stand = h.2 }
 
 module _ (known : List Kept) (first wanted : List Bool) (found : List (Bor Kept)) (ws : List Bool) (b : Bool) (popped : wanted ≡ ws ++ b ∷ []) (k : Kept) (d : Kept)
     (here : k ≡ get_or known (length ws) d) (g : Goes known first wanted found) where
@@ -190,9 +174,9 @@ module _ (known : List Kept) (first wanted : List Bool) (found : List (Bor Kept)
       ap (λ n. reverse (take n known)) count ∙ ap reverse (take_more known (length ws) d inside)
       ∙ reverse-append (take (length ws) known) (get_or known (length ws) d ∷ []) ∙ ap (λ x. x ∷ reverse (take (length ws) known)) (sym here)
 
-  module _ (H : Scope ℕ) (next : ℕ) (ms : List Known) (names : List (List ℕ)) (l : Left H next known wanted found ms names) where
-    parts : Split H next l.rest k (reverse (take (length ws) known))
-    parts = split H next l.rest k (reverse (take (length ws) known)) (subst (Stand H next l.rest) reversed l.stand)
+  module _ (ms : List Numbered) (names : List (List ℕ)) (l : Left known wanted found ms names) where
+    parts : Split l.rest k (reverse (take (length ws) known))
+    parts = split l.rest k (reverse (take (length ws) known)) (subst (Stand l.rest) reversed l.stand)
 
     ends : ws ++ b ∷ [] ≡ are_among l.wants (names_of parts.before) ++ list_any (bytes_eq parts.last.name) l.wants ∷ []
     ends = sym popped ∙ l.wanted_are ∙ ap (λ r. are_among l.wants (names_of r)) parts.are ∙ among_push l.wants parts.last parts.before
@@ -208,17 +192,16 @@ module _ (known : List Kept) (first wanted : List Bool) (found : List (Bor Kept)
         ap (λ r. reached r l.wants) parts.are
         ∙ ap (λ v. if v then parts.last.defs ++ reached parts.before (l.wants ++ parts.last.imports) else reached parts.before l.wants) (sym is_last)
 
-    passed : b ≡ false → Left H next known ws found ms names
+    passed : b ≡ false → Left known ws found ms names
     passed not = record {
       rest = parts.before;
       wants = l.wants;
       stand = parts.stand;
       wanted_are = others;
-      all = ap (λ r. all_words H found ++ r) (sym (then_reached ∙ ap (λ v. if v then parts.last.defs ++ reached parts.before (l.wants ++ parts.last.imports) else reached parts.before l.wants) not)) ∙ l.all;
-      earlier = l.earlier;
+      all = ap (λ r. all_names found ++ r) (sym (then_reached ∙ ap (λ v. if v then parts.last.defs ++ reached parts.before (l.wants ++ parts.last.imports) else reached parts.before l.wants) not)) ∙ l.all;
     }
 
-    taken : (new : List Bool) (kept : Bor Kept) → b ≡ true → kept.now ≡ k → new ≡ either ws k.imports.items → Left H next known new (found ++ kept ∷ []) ms names
+    taken : (new : List Bool) (kept : Bor Kept) → b ≡ true → kept.now ≡ k → new ≡ either ws k.imports.items → Left known new (found ++ kept ∷ []) ms names
     taken new kept wanted_too is e =
         let are : new ≡ are_among (l.wants ++ parts.last.imports) (names_of parts.before) =
         e ∙ ap (λ xs. either xs k.imports.items) others ∙ ap (either (are_among l.wants (names_of parts.before))) parts.imports
@@ -227,30 +210,28 @@ module _ (known : List Kept) (first wanted : List Bool) (found : List (Bor Kept)
         record {
           rest = parts.before;
           wants = l.wants ++ parts.last.imports;
-          stand = subst (λ n. Stand H next parts.before (reverse (take n known))) (sym long) parts.stand;
+          stand = subst (λ n. Stand parts.before (reverse (take n known))) (sym long) parts.stand;
           wanted_are = are;
           all = ap (λ xs. xs ++ reached parts.before (l.wants ++ parts.last.imports)) (found_more kept is)
-              ∙ append_assoc (all_words H found) parts.last.defs (reached parts.before (l.wants ++ parts.last.imports))
-              ∙ ap (λ r. all_words H found ++ r) (sym (then_reached ∙ ap (λ v. if v then parts.last.defs ++ reached parts.before (l.wants ++ parts.last.imports) else reached parts.before l.wants) wanted_too)) ∙ l.all;
-          earlier = all_append (λ (x : Bor Kept). AreEarlier next x.now.names) found (kept ∷ []) l.earlier
-              (all_one (λ (x : Bor Kept). AreEarlier next x.now.names) kept (subst (λ x. AreEarlier next x.names) (sym is) parts.earlier));
+              ∙ append_assoc (all_names found) parts.last.defs (reached parts.before (l.wants ++ parts.last.imports))
+              ∙ ap (λ r. all_names found ++ r) (sym (then_reached ∙ ap (λ v. if v then parts.last.defs ++ reached parts.before (l.wants ++ parts.last.imports) else reached parts.before l.wants) wanted_too)) ∙ l.all;
         }
       where
-        found_more : (kept : Bor Kept) → kept.now ≡ k → all_words H (found ++ kept ∷ []) ≡ all_words H found ++ parts.last.defs
+        found_more : (kept : Bor Kept) → kept.now ≡ k → all_names (found ++ kept ∷ []) ≡ all_names found ++ parts.last.defs
         found_more kept is =
-            flat_map-append (λ (x : Bor Kept). words H x.now.names) found (kept ∷ [])
-            ∙ ap (λ xs. all_words H found ++ xs) (append_empty (words H kept.now.names) ∙ ap (λ x. words H x.names) is ∙ sym parts.defs)
+            flat_map-append (λ (x : Bor Kept). reverse x.now.names) found (kept ∷ [])
+            ∙ ap (λ xs. all_names found ++ xs) (append_empty (reverse kept.now.names) ∙ ap (λ x. reverse x.names) is ∙ sym parts.defs)
 
   goes_past : b ≡ false → Goes known first ws found
   goes_past not = record {
     within = let w = g.within in let c = count in omega arith;
-    left = λ H next ms names stand are. passed H next ms names (g.left H next ms names stand are) not;
+    left = λ ms names stand are. passed ms names (g.left ms names stand are) not;
   }
 
   pub goes_on : (new : List Bool) (kept : Bor Kept) → b ≡ true → kept.now ≡ k → new ≡ either ws k.imports.items → Goes known first new (found ++ kept ∷ [])
   goes_on new kept wanted_too is e = record {
     within = let w = g.within in let c = count in let n = ap length e in let m = either_length ws k.imports.items in omega arith;
-    left = λ H next ms names stand are. taken H next ms names (g.left H next ms names stand are) new kept wanted_too is e;
+    left = λ ms names stand are. taken ms names (g.left ms names stand are) new kept wanted_too is e;
   }
 
 pub goes_without : (known : List Kept) (first wanted : List Bool) (found : List (Bor Kept)) (ws : List Bool) (b : Bool) → wanted ≡ ws ++ b ∷ [] → b ≡ false
@@ -260,60 +241,47 @@ goes_without (k ∷ ks) first wanted found ws b popped not g = goes_past (k ∷ 
 
 pub goes_end : (known : List Kept) (first wanted : List Bool) (found : List (Bor Kept)) → wanted ≡ [] → Goes known first wanted found → Finds known first found
 goes_end known first wanted found none g = record {
-  finds = λ H next ms names stand are.
-      let l = g.left H next ms names stand are in
-      (sym (nothing H next ms names l) ∙ l.all, l.earlier);
+  finds = λ ms names stand are. let l = g.left ms names stand are in sym (nothing ms names l) ∙ l.all;
 }
   where
-    is_empty : (H : Scope ℕ) (next : ℕ) (rest : List Known) → Stand H next rest [] → rest ≡ []
-    is_empty H next [] h = refl
-    is_empty H next (m ∷ rest) h = absurd h
+    is_empty : (rest : List Numbered) → Stand rest [] → rest ≡ []
+    is_empty [] h = refl
+    is_empty (m ∷ rest) h = absurd h
 
-    nothing : (H : Scope ℕ) (next : ℕ) (ms : List Known) (names : List (List ℕ)) (l : Left H next known wanted found ms names) → all_words H found ++ reached l.rest l.wants ≡ all_words H found
-    nothing H next ms names l =
+    nothing : (ms : List Numbered) (names : List (List ℕ)) (l : Left known wanted found ms names) → all_names found ++ reached l.rest l.wants ≡ all_names found
+    nothing ms names l =
         let gone : reverse (take (length wanted) known) ≡ [] = ap reverse (no_more known (length wanted) (ap length none)) in
-        ap (λ r. all_words H found ++ reached r l.wants) (is_empty H next l.rest (subst (Stand H next l.rest) gone l.stand)) ∙ append_empty (all_words H found)
+        ap (λ r. all_names found ++ reached r l.wants) (is_empty l.rest (subst (Stand l.rest) gone l.stand)) ∙ append_empty (all_names found)
 
 -- Names were gathered of some of the modules that were found; those that are left stand before them.
 pub record Gathers (known : List Kept) (imports : List Bool) (found : List (Bor Kept)) (names : List ScopeName) : Type 0 where
-  pub gathers : (H : Scope ℕ) (next : ℕ) (ms : List Known) (wanted : List (List ℕ))
-      → Stand H next ms (reverse known) → imports ≡ are_among wanted (names_of ms)
-      → (all_words H found ++ words H names ≡ reached ms wanted)
-      × All (λ (k : Bor Kept). AreEarlier next k.now.names) found × AreEarlier next names
+  pub gathers : (ms : List Numbered) (wanted : List (List ℕ))
+      → Stand ms (reverse known) → imports ≡ are_among wanted (names_of ms)
+      → all_names found ++ reverse names ≡ reached ms wanted
 
 pub gathers_none : (known : List Kept) (imports wanted : List Bool) (found : List (Bor Kept)) (names : List ScopeName) → wanted ≡ imports → names ≡ [] → Finds known wanted found
     → Gathers known imports found names
 gathers_none known imports wanted found names same none f = record {
-  gathers = λ H next ms wants stand are.
-      let h = f.finds H next ms wants stand (same ∙ are) in (
-        ap (λ ns. all_words H found ++ words H ns) none ∙ append_empty (all_words H found) ∙ h.0,
-        h.1,
-        λ k d l. absurd (let e = ap length none in omega arith),
-      );
+  gathers = λ ms wants stand are.
+      ap (λ ns. all_names found ++ reverse ns) none ∙ append_empty (all_names found) ∙ f.finds ms wants stand (same ∙ are);
 }
 
 pub gathers_more : (known : List Kept) (imports : List Bool) (found fs : List (Bor Kept)) (k : Bor Kept) (names more : List ScopeName) → found ≡ fs ++ k ∷ [] → more ≡ names ++ k.now.names
     → Gathers known imports found names → Gathers known imports fs more
 gathers_more known imports found fs k names more popped e g = record {
-  gathers = λ H next ms wants stand are.
-      let h = g.gathers H next ms wants stand are in
-      let earlier : All (λ (x : Bor Kept). AreEarlier next x.now.names) (fs ++ k ∷ []) = subst (All (λ (x : Bor Kept). AreEarlier next x.now.names)) popped h.1 in (
-        ap (λ ns. all_words H fs ++ words H ns) e ∙ ap (λ ws. all_words H fs ++ ws) (words_append H names k.now.names)
-            ∙ sym (append_assoc (all_words H fs) (words H k.now.names) (words H names))
-            ∙ ap (λ ws. ws ++ words H names) (ap (λ ws. all_words H fs ++ ws) (sym (append_empty (words H k.now.names))) ∙ sym (flat_map-append (λ (x : Bor Kept). words H x.now.names) fs (k ∷ [])))
-            ∙ ap (λ ks. all_words H ks ++ words H names) (sym popped) ∙ h.0,
-        all_first (λ (x : Bor Kept). AreEarlier next x.now.names) fs (k ∷ []) earlier,
-        subst (AreEarlier next) (sym e) (all_append (λ n. n.def < next) names k.now.names h.2 (all_last (λ (x : Bor Kept). AreEarlier next x.now.names) fs k earlier)),
-      );
+  gathers = λ ms wants stand are.
+      ap (λ ns. all_names fs ++ reverse ns) e ∙ ap (λ ns. all_names fs ++ ns) (reverse-append names k.now.names)
+      ∙ sym (append_assoc (all_names fs) (reverse k.now.names) (reverse names))
+      ∙ ap (λ ns. ns ++ reverse names) (ap (λ ns. all_names fs ++ ns) (sym (append_empty (reverse k.now.names))) ∙ sym (flat_map-append (λ (x : Bor Kept). reverse x.now.names) fs (k ∷ [])))
+      ∙ ap (λ ks. all_names ks ++ reverse names) (sym popped) ∙ g.gathers ms wants stand are;
 }
 
 pub gathers_end : (known : List Kept) (imports : List Bool) (found : List (Bor Kept)) (names : List ScopeName) (next : ℕ) (scope : ScopeOf) → found ≡ [] → scope.names ≡ names → scope.next ≡ next
     → Gathers known imports found names → Sees known imports next scope
 gathers_end known imports found names next scope none named counted g = record {
   next_is = counted;
-  sees = λ H ms wants stand are.
-      let h = g.gathers H next ms wants stand are in
-      (ap (words H) named ∙ ap (λ ks. all_words H ks ++ words H names) (sym none) ∙ h.0, subst (AreEarlier next) (sym named) h.2);
+  sees = λ ms wants stand are.
+      ap reverse named ∙ ap (λ ks. all_names ks ++ reverse names) (sym none) ∙ g.gathers ms wants stand are;
 }
 
 -- a name that is found

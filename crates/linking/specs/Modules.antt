@@ -3,11 +3,10 @@ use Rattle.std.specs.Prelude.{◌≡◌, ◌<◌, ◌++◌, ℕ, List, [], ◌�
 use Rattle.std.specs.Prelude.{if◌then◌else◌, None}
 use Rattle.std.specs.List.{All, flat_map, list_any}
 use Rattle.layout_lexer.specs.declared.token.Span.{Span}
-use Rattle.syntax.specs.declared.exp.Def.{Def}
-use Rattle.syntax.specs.View.{module_of, def_items}
+use Rattle.syntax.specs.View.{module_of}
 use Rattle.trees.specs.Judgements.{Judgement}
 use Rattle.translation.specs.declared.fault.ScopeFault.{ScopeFault}
-use Rattle.translation.specs.Scopes.{Scope}
+use Rattle.translation.specs.Scopes.{Entry, Scope}
 use Rattle.translation.specs.Translated.{Translated, Refuses, done, judgements_of}
 use Rattle.translation.specs.Names.{Word}
 use Rattle.translation.specs.Texts.{Written, block}
@@ -15,15 +14,19 @@ use Rattle.module_texts.specs.declared.text.ModuleText.{ModuleText}
 use Rattle.module_texts.specs.Texts.{name_of, imports_of}
 use Rattle.resolver.specs.Resolved.{defs_of_module, names_of}
 
--- a module whose text was translated, with its definitions, the last first
-pub record Known : Type 0 where
+-- a module, with what is known of its definitions, the last first
+pub record KnownBy (A : Type 0) : Type 0 where
   pub name : List ℕ
   pub imports : List (List ℕ)
-  pub defs : Scope Word
+  pub defs : List A
+
+-- a module whose text was translated
+abbrev pub Known : Type 0
+Known = KnownBy (Entry Word)
 
 -- The definitions of the modules that these names reach, in the order of loading. The modules stand
 -- the last first, and each was loaded after its imports.
-abbrev pub reached : List Known → List (List ℕ) → Scope Word
+abbrev pub reached : {A : Type 0} → List (KnownBy A) → List (List ℕ) → List A
 reached [] names = []
 reached (m ∷ before) names =
     if list_any (bytes_eq m.name) names then m.defs ++ reached before (names ++ m.imports)
@@ -31,10 +34,6 @@ reached (m ∷ before) names =
 
 abbrev pub defs_in : ModuleText → List Written
 defs_in x = defs_of_module x.bytes.items (module_of x.module)
-
--- the same as they were read
-abbrev pub read_defs : ModuleText → List Def
-read_defs x = def_items x.module.defs
 
 -- where a module names them
 abbrev pub names_in : ModuleText → List Span

@@ -1,12 +1,11 @@
 -- What is kept of modules, and how it stands for what they mean.
 use Rattle.std.specs.Prelude.{◌≡◌, ◌||◌, ℕ, Bool, List, [], ◌∷◌, bytes_eq, length, map, reverse}
-use Rattle.std.specs.List.{All, flat_map, list_any}
+use Rattle.std.specs.List.{flat_map, list_any}
 use denote.Ref.{Bor}
-use Rattle.translation.specs.Scopes.{Scope}
 use Rattle.scopes.specs.declared.scope.Scope.{Scope as ScopeOf}
-use Rattle.resolver.specs.Resolved.{AreEarlier, words}
+use Rattle.scopes.specs.declared.scope.ScopeName.{ScopeName}
 use Rattle.linking.specs.declared.known.Known.{Known as Kept}
-use Rattle.linking.specs.Modules.{Known, reached}
+use Rattle.linking.specs.Modules.{KnownBy, reached}
 
 -- of each of these modules, whether it is among those of other names
 abbrev pub are_among : List (List ℕ) → List (List ℕ) → List Bool
@@ -17,30 +16,33 @@ either [] qs = []
 either (p ∷ ps) [] = p ∷ ps
 either (p ∷ ps) (q ∷ qs) = (p || q) ∷ either ps qs
 
+-- a module whose definitions have numbers
+abbrev pub Numbered : Type 0
+Numbered = KnownBy ScopeName
+
 -- the names of modules that stand the last first, in order
-abbrev pub names_of : List Known → List (List ℕ)
+abbrev pub names_of : {A : Type 0} → List (KnownBy A) → List (List ℕ)
 names_of known = map (λ m. m.name) (reverse known)
 
 -- What is kept of modules, both lists the last first: which of the modules before it each imports,
--- and its definitions by numbers below `next`.
-abbrev pub Stand : Scope ℕ → ℕ → List Known → List Kept → Type 0
-Stand H next [] [] = Unit {0}
-Stand H next (m ∷ ms) (k ∷ ks) =
-    (k.imports.items ≡ are_among m.imports (names_of ms)) × (m.defs ≡ words H k.names)
-    × AreEarlier next k.names × Stand H next ms ks
-Stand H next _ _ = ⊥
+-- and its definitions by their numbers.
+abbrev pub Stand : List Numbered → List Kept → Type 0
+Stand [] [] = Unit {0}
+Stand (m ∷ ms) (k ∷ ks) =
+    (k.imports.items ≡ are_among m.imports (names_of ms)) × (m.defs ≡ reverse k.names)
+    × Stand ms ks
+Stand _ _ = ⊥
 
 -- These are the modules that are reached from those that are wanted, the last first.
 pub record Finds (known : List Kept) (wanted : List Bool) (found : List (Bor Kept)) : Type 0 where
-  pub finds : (H : Scope ℕ) (next : ℕ) (ms : List Known) (names : List (List ℕ))
-      → Stand H next ms (reverse known) → wanted ≡ are_among names (names_of ms)
-      → (flat_map (λ k. words H k.now.names) found ≡ reached ms names)
-      × All (λ k. AreEarlier next k.now.names) found
+  pub finds : (ms : List Numbered) (names : List (List ℕ))
+      → Stand ms (reverse known) → wanted ≡ are_among names (names_of ms)
+      → flat_map (λ k. reverse k.now.names) found ≡ reached ms names
 
 -- This is the scope that imports reach.
 pub record Sees (known : List Kept) (imports : List Bool) (next : ℕ) (scope : ScopeOf) :
     Type 0 where
   pub next_is : scope.next ≡ next
-  pub sees : (H : Scope ℕ) (ms : List Known) (names : List (List ℕ))
-      → Stand H next ms (reverse known) → imports ≡ are_among names (names_of ms)
-      → (words H scope.names ≡ reached ms names) × AreEarlier next scope.names
+  pub sees : (ms : List Numbered) (names : List (List ℕ))
+      → Stand ms (reverse known) → imports ≡ are_among names (names_of ms)
+      → reverse scope.names ≡ reached ms names

@@ -28,7 +28,7 @@ use Rattle.readings.specs.Spelt.{Applies, read, code_term, code_motive, code_ele
 use Rattle.readings.proofs.Spelling.{elements_spelt}
 
 -- how many arguments stand before the first `@`
-pub leading : List Element → ℕ
+unfoldable pub leading : List Element → ℕ
 leading [] = 0
 leading (Argument' e ∷ es) = suc (leading es)
 leading (At' s f ∷ es) = 0

@@ -1,8 +1,7 @@
--- Which code a text becomes, form by form, each with the piece of the text that it spells.
---
--- What a name stands for is said by what a text means, and so is left open here: an applied name
--- may be `suc` or `natrec` with arguments of its own, and a motive may be opened or applied.
-use Rattle.std.specs.Prelude.{◌≡◌, ◌⊎◌, ◌==◌, ℕ, List, [], ◌∷◌, length, if◌then◌else◌}
+-- Which code a text becomes among the names in scope, form by form, each with the piece of the text
+-- that it spells. But for the numbers of its own definitions, text and names leave one code.
+use Rattle.std.specs.Prelude.{◌≡◌, ◌==◌, ◌&&◌, ℕ, zero, suc, Bool, true, false, List, [], ◌∷◌, map}
+use Rattle.std.specs.Prelude.{length, codes, if◌then◌else◌, Option, Some, None}
 use Rattle.layout_lexer.specs.declared.token.Span.{Span}
 use Rattle.syntax.specs.declared.exp.Exp.{Exp}
 use Rattle.syntax.specs.declared.exp.Element.{Element}
@@ -11,7 +10,9 @@ use Rattle.syntax.specs.declared.exp.Side.{Side as SideOf}
 use Rattle.syntax.specs.declared.exp.Def.{Def}
 use Rattle.syntax.specs.Tree as text
 use Rattle.syntax.specs.View.{tree_of, element_of, tele_of, side_of, def_of, tree_list}
-use Rattle.translation.specs.Texts.{span_of}
+use Rattle.translation.specs.declared.built_in.BuiltIn.TheVariants as built_in
+use Rattle.translation.specs.Names.{Word}
+use Rattle.translation.specs.Texts.{span_of, word}
 use Rattle.codes.specs.declared.code.Code.{Code}
 use Rattle.codes.specs.declared.code.CodeDef.{CodeDef}
 use Rattle.codes.specs.declared.code.Opened.{Opened as OpenedOf}
@@ -23,6 +24,12 @@ use Rattle.codes.specs.declared.code.PairSide.{PairSide}
 use Rattle.codes.specs.Shapes as code
 use Rattle.codes.specs.Shapes.{Shape, Shapes, shape, opened_shape, element_shape, def_shape, listed}
 use Rattle.codes.specs.Shapes.{of_binder, of_side, of_line_side, of_pair_side}
+use Rattle.scopes.specs.declared.names.Binding.{Binding}
+use Rattle.scopes.specs.declared.names.Binding.TheVariants as binding
+use Rattle.scopes.specs.declared.names.Found.{Found}
+use Rattle.scopes.specs.declared.names.Found.TheVariants as found
+use Rattle.scopes.specs.Finding.{Named}
+use Rattle.references.specs.Named.{as_term, found_at, formula_in, equations_in}
 
 -- Where a text stands. But for a term it is known by the piece that it spells, with its brackets.
 pub data Stand : Type 0 where
@@ -33,35 +40,43 @@ pub data Stand : Type 0 where
   Side : Span → Stand
   Pair : Span → Stand
 
--- which codes a text may become where it stands
+-- which codes a text may become, among these names, where it stands
 abbrev pub Becoming : Type 1
-Becoming = Stand → Shape → Type 0
+Becoming = List Named → Stand → Shape → Type 0
 
 -- A form that is no written line, motive or pair: a line or motive is applied, and a pair refused.
-abbrev pub plain : (Shape → Type 0) → Becoming
-plain Is Term c = Is c
-plain Is (Line s) c = (b : Shape) × (c ≡ code.Applied s b) × Is b
-plain Is (Motive s) c = (b : Shape) × (c ≡ code.Applied s b) × Is b
-plain Is (Side s) c = (b : Shape) × (c ≡ code.Side s b) × Is b
-plain Is (Pair s) c = (b : Shape) × (c ≡ code.PairSide s b (code.Leaf s)) × Is b
+abbrev pub plain : (List Named → Shape → Type 0) → Becoming
+plain Is names Term c = Is names c
+plain Is names (Line s) c = (b : Shape) × (c ≡ code.Applied s b) × Is names b
+plain Is names (Motive s) c = (b : Shape) × (c ≡ code.Applied s b) × Is names b
+plain Is names (Side s) c = (b : Shape) × (c ≡ code.Side s b) × Is names b
+plain Is names (Pair s) c = (b : Shape) × (c ≡ code.PairSide s b (code.Universe s)) × Is names b
 
--- As a line, or as a pair, some forms are more. As a motive a lambda may be opened.
+-- As a line, a motive or a pair, some forms are another code.
 
-abbrev pub as_line : (Span → Shape → Type 0) → Becoming → Becoming
-as_line Is otherwise (Line s) c = Is s c
-as_line Is otherwise at c = otherwise at c
+abbrev pub as_line : (List Named → Span → Shape → Type 0) → Becoming → Becoming
+as_line Is otherwise names (Line s) c = Is names s c
+as_line Is otherwise names at c = otherwise names at c
 
-abbrev pub as_pair : (Span → Shape → Type 0) → Becoming → Becoming
-as_pair Is otherwise (Pair s) c = Is s c
-as_pair Is otherwise at c = otherwise at c
+abbrev pub as_motive : (List Named → Span → Shape → Type 0) → Becoming → Becoming
+as_motive Is otherwise names (Motive s) c = Is names s c
+as_motive Is otherwise names at c = otherwise names at c
 
-abbrev pub may_open : (Span → Shape → Type 0) → Becoming → Becoming
-may_open Is otherwise (Motive s) c = Is s c ⊎ otherwise (Motive s) c
-may_open Is otherwise at c = otherwise at c
+abbrev pub as_pair : (List Named → Span → Shape → Type 0) → Becoming → Becoming
+as_pair Is otherwise names (Pair s) c = Is names s c
+as_pair Is otherwise names at c = otherwise names at c
+
+abbrev pub where_found : {A : Type 0} → Option A → (A → Type 0) → Type 0 → Type 0
+where_found (Some a) Is otherwise = Is a
+where_found None Is otherwise = otherwise
+
+abbrev pub where_true : Bool → Type 0 → Type 0 → Type 0
+where_true true Is otherwise = Is
+where_true false Is otherwise = otherwise
 
 -- so many variables over `nat`, which stands at that piece
 abbrev pub numbers : ℕ → Span → Shapes
-numbers n s = if n == 0 then code.none else code.more (code.Binder n (code.Leaf s)) code.none
+numbers n s = if n == 0 then code.none else code.more (code.Binder n (code.Nat s)) code.none
 
 -- the body of a definition, after its `where` block if it has one
 abbrev pub after : Span → Shapes → Shape → Shape
@@ -73,151 +88,275 @@ abbrev pub tuple : Span → Shapes → Shape
 tuple s (code.more c code.none) = c
 tuple s cs = code.Tuple s cs
 
-abbrev mutual
-  pub Becomes : text.Tree → Becoming
-  Becomes (text.Let s ds e) = plain λ c.
-      (xs : Shapes) × (b : Shape) × (c ≡ code.Let s xs b) × Become ds xs × Becomes e Term b
-  Becomes (text.Lambda s xs e) = may_open (Opened xs (Becomes e)) (plain λ c.
-      (bs : Shapes) × (b : Shape) × (c ≡ code.lambda s bs b) × Become xs bs × Becomes e Term b)
-  Becomes (text.PathLambda s [] e) = Becomes e
-  Becomes (text.PathLambda s (i ∷ is) e) =
-      as_line (λ p c. (b : Shape) × (c ≡ code.Under p (code.path_lambda p (length is) b))
-      × Becomes e Term b)
-      (plain λ c. (b : Shape) × (c ≡ code.path_lambda s (length (i ∷ is)) b) × Becomes e Term b)
-  Becomes (text.Pi s xs e) = plain λ c.
-      (bs : Shapes) × (b : Shape) × (c ≡ code.Pi s bs b) × Become xs bs × Becomes e Term b
-  Becomes (text.Sigma s xs e) = plain λ c.
-      (bs : Shapes) × (b : Shape) × (c ≡ code.Sigma s bs b) × Become xs bs × Becomes e Term b
-  Becomes (text.Arrow s a e) = plain λ c. (A : Shape) × (b : Shape)
-      × (c ≡ code.Pi s (code.more (code.Binder 1 A) code.none) b)
-      × Becomes a Term A × Becomes e Term b
-  Becomes (text.Apply s f es) = plain λ c. (h : Shape) × (cs : Shapes) × (c ≡ code.apply s h cs)
-      × ((Becomes f Term h × Become es cs)
-      ⊎ ((n : Span) × (f ≡ text.Name n) × (TakesOne n es h cs ⊎ TakesFour n es h cs)))
-  Becomes (text.PathP s l a b) = plain λ c.
-      (L : Shape) × (A : Shape) × (B : Shape) × (c ≡ code.PathP s L A B)
-      × Becomes l (Line (span_of l)) L × Becomes a Term A × Becomes b Term B
-  Becomes (text.Comp s l a ss) = plain λ c.
-      (L : Shape) × (A : Shape) × (cs : Shapes) × (c ≡ code.Comp s L A cs)
-      × Becomes l (Line (span_of l)) L × Becomes a Term A × BecomeSides Line ss cs
-  Becomes (text.Fill s l a ss) = plain λ c.
-      (L : Shape) × (A : Shape) × (cs : Shapes) × (c ≡ code.Fill s L A cs)
-      × Becomes l (Line (span_of l)) L × Becomes a Term A × BecomeSides Line ss cs
-  Becomes (text.Transport s l a) = plain λ c. (L : Shape) × (A : Shape)
-      × (c ≡ code.Transport s L A) × Becomes l (Line (span_of l)) L × Becomes a Term A
-  Becomes (text.GlueType s a ss) = plain λ c. (A : Shape) × (cs : Shapes)
-      × (c ≡ code.GlueType s A cs) × Becomes a Term A × BecomeSides Pair ss cs
-  Becomes (text.GlueTerm s a ss) = plain λ c. (A : Shape) × (cs : Shapes)
-      × (c ≡ code.GlueTerm s A cs) × Becomes a Term A × BecomeSides Side ss cs
-  Becomes (text.Unglue s a ss) = plain λ c. (A : Shape) × (cs : Shapes)
-      × (c ≡ code.Unglue s A cs) × Becomes a Term A × BecomeSides Pair ss cs
-  Becomes (text.Project s e ps) = plain λ c.
-      (b : Shape) × (c ≡ code.Project s b ps) × Becomes e Term b
-  Becomes (text.Universe s) = plain λ c. c ≡ code.Leaf s
-  Becomes (text.Name s) = plain λ c. (c ≡ code.Leaf s) ⊎ (c ≡ code.successor s)
-  Becomes (text.Brackets s es) = InBrackets s es
-  Becomes (text.At s f) = plain λ c. c ≡ code.At s f
-  Becomes (text.Tele xs t) = plain λ c.
-      (A : Shape) × (c ≡ code.Binder (length xs) A) × Becomes t Term A
-  Becomes (text.Def x xs t e ds) = plain λ c.
-      (bs : Shapes) × (A : Shape) × (ls : Shapes) × (b : Shape)
-      × (c ≡ code.Def x bs A (after (span_of e) ls b))
-      × Become xs bs × Becomes t Term A × Become ds ls × Becomes e Term b
-  Becomes _ = plain λ c. ⊥
+-- is it an argument, and no `@ formula`?
+abbrev pub is_argument : text.Tree → Bool
+is_argument (text.At s f) = false
+is_argument _ = true
 
-  -- in order
-  pub Become : text.Trees → Shapes → Type 0
-  Become text.none code.none = Unit {0}
-  Become (text.more e es) (code.more c cs) = Becomes e Term c × Become es cs
-  Become _ _ = ⊥
+-- are the first so many arguments?
+abbrev pub are_arguments : ℕ → text.Trees → Bool
+are_arguments zero es = true
+are_arguments (suc n) text.none = false
+are_arguments (suc n) (text.more e es) = is_argument e && are_arguments n es
 
-  -- `( texts )`: one is seen through, several are a tuple
-  pub InBrackets : Span → text.Trees → Becoming
-  InBrackets s text.none = plain λ c. c ≡ code.Tuple s code.none
-  InBrackets s (text.more e text.none) = Becomes e
-  InBrackets s (text.more a (text.more b rest)) =
-      as_pair (λ p c. (T : Shape) × (ws : Shapes) × (c ≡ code.PairSide p T (tuple s ws))
-      × Becomes a Term T × Become (text.more b rest) ws)
-      (plain λ c. (A : Shape) × (bs : Shapes) × (c ≡ code.Tuple s (code.more A bs))
-      × Becomes a Term A × Become (text.more b rest) bs)
+abbrev pub is_nat : Found → Bool
+is_nat (found.BuiltIn built_in.Nat) = true
+is_nat _ = false
 
-  -- The first variable of a lambda over `nat` is that of the motive.
-  pub Opened : text.Trees → Becoming → Span → Shape → Type 0
-  Opened text.none Body p c = Body (Motive p) c
-  Opened (text.more (text.Tele (x ∷ others) t) xs) Body p c =
-      (n : Span) × (bs : Shapes) × (b : Shape)
-      × (c ≡ code.Under p (code.lambda p (numbers (length others) n) (code.lambda p bs b)))
-      × Becomes t Term (code.Leaf n) × Become xs bs × Body Term b
-  Opened _ Body p c = ⊥
+-- A name that is applied, by what it stands for: where as many are written, `suc` takes one
+-- argument of its own, and `natrec` four.
+abbrev pub Applied : Found → text.Trees → Type 0 → Type 0 → Type 0 → Type 0
+Applied (found.BuiltIn built_in.Suc) es TakesOne TakesFour TakesNone =
+    where_true (are_arguments 1 es) TakesOne TakesNone
+Applied (found.BuiltIn built_in.NatRec) es TakesOne TakesFour TakesNone =
+    where_true (are_arguments 4 es) TakesFour TakesNone
+Applied _ es TakesOne TakesFour TakesNone = TakesNone
 
-  -- a name that takes one argument of its own, and one that takes four
-  pub TakesOne : Span → text.Trees → Shape → Shapes → Type 0
-  TakesOne n (text.more a es) h cs =
-      (b : Shape) × (h ≡ code.Suc n b) × Becomes a Term b × Become es cs
-  TakesOne n text.none h cs = ⊥
+-- with names bound, the last first
+abbrev pub bound_in : List Word → Binding → List Named → List Named
+bound_in [] b names = names
+bound_in (x ∷ xs) b names = bound_in xs b (record { word = x; binding = b } ∷ names)
 
-  pub TakesFour : Span → text.Trees → Shape → Shapes → Type 0
-  TakesFour n (text.more P (text.more a (text.more b (text.more k es)))) h cs =
-      (M : Shape) × (x : Shape) × (y : Shape) × (z : Shape) × (h ≡ code.NatRec n M x y z)
-      × Becomes P (Motive (span_of P)) M × Becomes a Term x × Becomes b Term y
-      × Becomes k Term z × Become es cs
-  TakesFour n es h cs = ⊥
+-- Which names are in scope after a part of a text that became a code.
+abbrev pub Scoping : Type 0
+Scoping = text.Tree → Shape → List Named → List Named
 
-  pub BecomeSides : (Span → Stand) → text.Trees → Shapes → Type 0
-  BecomeSides at text.none code.none = Unit {0}
-  BecomeSides at (text.more (text.Side qs e) es) (code.more c cs) =
-      Becomes e (at (span_of e)) c × BecomeSides at es cs
-  BecomeSides at _ _ = ⊥
+-- after these, in order
+abbrev pub after_all : Scoping → text.Trees → Shapes → List Named → List Named
+after_all step text.none cs names = names
+after_all step (text.more e es) code.none names = names
+after_all step (text.more e es) (code.more c cs) names = after_all step es cs (step e c names)
 
--- The same of values of the program.
+-- parts that bind nothing
+abbrev pub binding_nothing : Scoping
+binding_nothing e c names = names
 
-pub record IsTerm (e : Exp) (c : Code) : Type 0 where
-  pub becomes : Becomes (tree_of e) Term (shape c)
+module _ (bytes : List ℕ) where
+  abbrev pub words : List Span → List Word
+  words = map (word bytes)
 
-pub record AreTerms (es : List Exp) (cs : List Code) : Type 0 where
-  pub become : Become (tree_list tree_of es) (listed shape cs)
+  -- a tele binds variables
+  abbrev pub under_tele : Scoping
+  under_tele (text.Tele xs t) c names = bound_in (words xs) binding.Variable names
+  under_tele _ c names = names
 
--- the name that stands there, in any brackets
-pub record IsName (e : Exp) (s : Span) : Type 0 where
-  pub becomes : Becomes (tree_of e) Term (code.Leaf s)
+  -- a definition is bound to its number
+  abbrev pub after_definition : Scoping
+  after_definition e (code.Def x n bs A b) names =
+      record { word = word bytes x; binding = binding.Definition n } ∷ names
+  after_definition e _ names = names
+
+  -- a lambda that is not opened, where its teles become `Binders` and its body becomes `Body`
+  abbrev pub in_lambda : Span → text.Trees → (List Named → Shapes → Type 0) → Becoming → Becoming
+  in_lambda s xs Binders Body = plain λ names c. (bs : Shapes) × (b : Shape)
+      × (c ≡ code.lambda s bs b) × Binders names bs × Body (after_all under_tele xs bs names) Term b
+
+  -- where the text is the built-in `nat`, in any brackets: its name
+  abbrev mutual
+    pub nat_in : List Named → text.Tree → Option Span
+    nat_in names (text.Name s) = if is_nat (found_at bytes names s) then Some s else None
+    nat_in names (text.Brackets s es) = nat_alone names es
+    nat_in names (text.PathLambda s [] e) = nat_in names e
+    nat_in names _ = None
+
+    pub nat_alone : List Named → text.Trees → Option Span
+    nat_alone names (text.more e text.none) = nat_in names e
+    nat_alone names _ = None
+
+  abbrev mutual
+    pub Becomes : text.Tree → Becoming
+    Becomes (text.Let s ds e) = plain λ names c. (xs : Shapes) × (b : Shape)
+        × (c ≡ code.Let s xs b) × Become after_definition ds names xs
+        × Becomes e (after_all after_definition ds xs names) Term b
+    Becomes (text.Lambda s xs e) =
+        as_motive (OpenedOver xs (Becomes e) (in_lambda s xs (Become under_tele xs) (Becomes e)))
+        (in_lambda s xs (Become under_tele xs) (Becomes e))
+    Becomes (text.PathLambda s [] e) = Becomes e
+    Becomes (text.PathLambda s (i ∷ is) e) =
+        as_line (λ names p c. (b : Shape) × (c ≡ code.Under p (code.path_lambda p (length is) b))
+        × Becomes e (bound_in (words (i ∷ is)) binding.Interval names) Term b)
+        (plain λ names c. (b : Shape) × (c ≡ code.path_lambda s (length (i ∷ is)) b)
+        × Becomes e (bound_in (words (i ∷ is)) binding.Interval names) Term b)
+    Becomes (text.Pi s xs e) = plain λ names c. (bs : Shapes) × (b : Shape)
+        × (c ≡ code.Pi s bs b) × Become under_tele xs names bs
+        × Becomes e (after_all under_tele xs bs names) Term b
+    Becomes (text.Sigma s xs e) = plain λ names c. (bs : Shapes) × (b : Shape)
+        × (c ≡ code.Sigma s bs b) × Become under_tele xs names bs
+        × Becomes e (after_all under_tele xs bs names) Term b
+    Becomes (text.Arrow s a e) = plain λ names c. (A : Shape) × (b : Shape)
+        × (c ≡ code.Pi s (code.more (code.Binder 1 A) code.none) b) × Becomes a names Term A
+        × Becomes e (bound_in (codes "_" ∷ []) binding.Variable names) Term b
+    Becomes (text.Apply s (text.Name n) es) = plain λ names c. (h : Shape) × (cs : Shapes)
+        × (c ≡ code.apply s h cs) × Applied (found_at bytes names n) es (TakesOne n es names h cs)
+        (TakesFour n es names h cs)
+        ((h ≡ as_term n (found_at bytes names n)) × Become binding_nothing es names cs)
+    Becomes (text.Apply s f es) = plain λ names c. (h : Shape) × (cs : Shapes)
+        × (c ≡ code.apply s h cs) × Becomes f names Term h × Become binding_nothing es names cs
+    Becomes (text.PathP s l a b) = plain λ names c. (L : Shape) × (A : Shape) × (B : Shape)
+        × (c ≡ code.PathP s L A B) × Becomes l names (Line (span_of l)) L
+        × Becomes a names Term A × Becomes b names Term B
+    Becomes (text.Comp s l a ss) = plain λ names c. (L : Shape) × (A : Shape) × (cs : Shapes)
+        × (c ≡ code.Comp s L A cs) × Becomes l names (Line (span_of l)) L
+        × Becomes a names Term A × BecomeSides Line ss names cs
+    Becomes (text.Fill s l a ss) = plain λ names c. (L : Shape) × (A : Shape) × (cs : Shapes)
+        × (c ≡ code.Fill s L A cs) × Becomes l names (Line (span_of l)) L
+        × Becomes a names Term A × BecomeSides Line ss names cs
+    Becomes (text.Transport s l a) = plain λ names c. (L : Shape) × (A : Shape)
+        × (c ≡ code.Transport s L A) × Becomes l names (Line (span_of l)) L
+        × Becomes a names Term A
+    Becomes (text.GlueType s a ss) = plain λ names c. (A : Shape) × (cs : Shapes)
+        × (c ≡ code.GlueType s A cs) × Becomes a names Term A × BecomeSides Pair ss names cs
+    Becomes (text.GlueTerm s a ss) = plain λ names c. (A : Shape) × (cs : Shapes)
+        × (c ≡ code.GlueTerm s A cs) × Becomes a names Term A × BecomeSides Side ss names cs
+    Becomes (text.Unglue s a ss) = plain λ names c. (A : Shape) × (cs : Shapes)
+        × (c ≡ code.Unglue s A cs) × Becomes a names Term A × BecomeSides Pair ss names cs
+    Becomes (text.Project s e ps) = plain λ names c.
+        (b : Shape) × (c ≡ code.Project s b ps) × Becomes e names Term b
+    Becomes (text.Universe s) = plain λ names c. c ≡ code.Universe s
+    Becomes (text.Name s) = plain λ names c. c ≡ as_term s (found_at bytes names s)
+    Becomes (text.Brackets s es) = InBrackets s es
+    Becomes (text.At s f) = plain λ names c. c ≡ code.At s (formula_in bytes names f)
+    Becomes (text.Tele xs t) = plain λ names c.
+        (A : Shape) × (c ≡ code.Binder (length xs) A) × Becomes t names Term A
+    Becomes (text.Def x xs t e ds) = plain λ names c.
+        (n : ℕ) × (bs : Shapes) × (A : Shape) × (ls : Shapes) × (b : Shape)
+        × (c ≡ code.Def x n bs A (after (span_of e) ls b)) × Become under_tele xs names bs
+        × Becomes t (after_all under_tele xs bs names) Term A
+        × Become after_definition ds (after_all under_tele xs bs names) ls
+        × Becomes e (after_all after_definition ds ls (after_all under_tele xs bs names)) Term b
+    Becomes _ = plain λ names c. ⊥
+
+    -- in order, each among the names after those before it
+    pub Become : Scoping → text.Trees → List Named → Shapes → Type 0
+    Become step text.none names code.none = Unit {0}
+    Become step (text.more e es) names (code.more c cs) =
+        Becomes e names Term c × Become step es (step e c names) cs
+    Become step _ names _ = ⊥
+
+    -- As a motive a lambda over `nat` is opened: its first variable is that of the motive. Over
+    -- nothing it is its body.
+    pub OpenedOver : text.Trees → Becoming → Becoming → List Named → Span → Shape → Type 0
+    OpenedOver text.none Body otherwise names p c = Body names (Motive p) c
+    OpenedOver (text.more (text.Tele (x ∷ others) t) xs) Body otherwise names p c =
+        where_found (nat_in names t) (λ n. (bs : Shapes) × (b : Shape)
+        × (c ≡ code.Under p (code.lambda p (numbers (length others) n) (code.lambda p bs b)))
+        × Become under_tele xs (bound_in (words (x ∷ others)) binding.Variable names) bs
+        × Body (after_all under_tele xs bs (bound_in (words (x ∷ others)) binding.Variable names))
+        Term b) (otherwise names (Motive p) c)
+    OpenedOver _ Body otherwise names p c = otherwise names (Motive p) c
+
+    -- `( texts )`: one is seen through, several are a tuple
+    pub InBrackets : Span → text.Trees → Becoming
+    InBrackets s text.none = plain λ names c. c ≡ code.Tuple s code.none
+    InBrackets s (text.more e text.none) = Becomes e
+    InBrackets s (text.more a (text.more b rest)) =
+        as_pair (λ names p c. (T : Shape) × (ws : Shapes) × (c ≡ code.PairSide p T (tuple s ws))
+        × Becomes a names Term T × Become binding_nothing (text.more b rest) names ws)
+        (plain λ names c. (A : Shape) × (bs : Shapes) × (c ≡ code.Tuple s (code.more A bs))
+        × Becomes a names Term A × Become binding_nothing (text.more b rest) names bs)
+
+    -- what takes one argument of its own, and what takes four
+
+    pub TakesOne : Span → text.Trees → List Named → Shape → Shapes → Type 0
+    TakesOne n (text.more a es) names h cs =
+        (b : Shape) × (h ≡ code.Suc n b) × Becomes a names Term b
+        × Become binding_nothing es names cs
+    TakesOne n text.none names h cs = ⊥
+
+    pub TakesFour : Span → text.Trees → List Named → Shape → Shapes → Type 0
+    TakesFour n (text.more P (text.more a (text.more b (text.more k es)))) names h cs =
+        (M : Shape) × (x : Shape) × (y : Shape) × (z : Shape) × (h ≡ code.NatRec n M x y z)
+        × Becomes P names (Motive (span_of P)) M × Becomes a names Term x
+        × Becomes b names Term y × Becomes k names Term z × Become binding_nothing es names cs
+    TakesFour n es names h cs = ⊥
+
+    pub BecomeSides : (Span → Stand) → text.Trees → List Named → Shapes → Type 0
+    BecomeSides at text.none names code.none = Unit {0}
+    BecomeSides at (text.more (text.Side qs e) es) names (code.more c cs) =
+        ((b : Shape) × (c ≡ code.On (equations_in bytes names qs) b)
+        × Becomes e names (at (span_of e)) b) × BecomeSides at es names cs
+    BecomeSides at _ names _ = ⊥
+
+  -- a name that takes no arguments of its own
+  abbrev pub TakesNone : Span → Found → text.Trees → List Named → Shape → Shapes → Type 0
+  TakesNone n f es names h cs = (h ≡ as_term n f) × Become binding_nothing es names cs
+
+-- The same of values of the program, among these names.
+
+pub record IsTerm (bytes : List ℕ) (names : List Named) (e : Exp) (c : Code) : Type 0 where
+  pub becomes : Becomes bytes (tree_of e) names Term (shape c)
+
+pub record AreTerms (bytes : List ℕ) (names : List Named) (es : List Exp) (cs : List Code) :
+    Type 0 where
+  pub become : Become bytes binding_nothing (tree_list tree_of es) names (listed shape cs)
 
 -- in brackets at that piece
-pub record IsTuple (s : Span) (es : List Exp) (c : Code) : Type 0 where
-  pub becomes : Becomes (text.Brackets s (tree_list tree_of es)) Term (shape c)
+pub record IsTuple (bytes : List ℕ) (names : List Named) (s : Span) (es : List Exp) (c : Code) :
+    Type 0 where
+  pub becomes : Becomes bytes (text.Brackets s (tree_list tree_of es)) names Term (shape c)
 
 -- the name there, applied
-pub record IsApplied (s n : Span) (es : List Element) (c : Code) : Type 0 where
-  pub becomes : Becomes (text.Apply s (text.Name n) (tree_list element_of es)) Term (shape c)
+pub record IsApplied (bytes : List ℕ) (names : List Named) (s n : Span) (es : List Element)
+    (c : Code) : Type 0 where
+  pub becomes : let es' = tree_list element_of es in
+      Becomes bytes (text.Apply s (text.Name n) es') names Term (shape c)
 
-pub record IsLine (s : Span) (e : Exp) (l : OpenedOf) : Type 0 where
-  pub becomes : Becomes (tree_of e) (Line s) (opened_shape l)
+-- the same, where the name takes no arguments of its own
+pub record IsPlain (bytes : List ℕ) (names : List Named) (s n : Span) (es : List Element)
+    (c : Code) : Type 0 where
+  pub head : Shape
+  pub elements : Shapes
+  pub is : shape c ≡ code.apply s head elements
+  pub takes : let found = found_at bytes names n in
+      TakesNone bytes n found (tree_list element_of es) names head elements
 
-pub record IsMotive (s : Span) (e : Exp) (m : OpenedOf) : Type 0 where
-  pub becomes : Becomes (tree_of e) (Motive s) (opened_shape m)
+pub record IsLine (bytes : List ℕ) (names : List Named) (s : Span) (e : Exp) (l : OpenedOf) :
+    Type 0 where
+  pub becomes : Becomes bytes (tree_of e) names (Line s) (opened_shape l)
 
-pub record IsPair (s : Span) (e : Exp) (T w : Code) : Type 0 where
-  pub becomes : Becomes (tree_of e) (Pair s) (code.PairSide s (shape T) (shape w))
+pub record IsMotive (bytes : List ℕ) (names : List Named) (s : Span) (e : Exp) (m : OpenedOf) :
+    Type 0 where
+  pub becomes : Becomes bytes (tree_of e) names (Motive s) (opened_shape m)
 
-pub record IsElement (e : Element) (c : CodeElement) : Type 0 where
-  pub becomes : Becomes (element_of e) Term (element_shape c)
+pub record IsPair (bytes : List ℕ) (names : List Named) (s : Span) (e : Exp) (T w : Code) :
+    Type 0 where
+  pub becomes : Becomes bytes (tree_of e) names (Pair s) (code.PairSide s (shape T) (shape w))
 
-pub record AreElements (es : List Element) (cs : List CodeElement) : Type 0 where
-  pub become : Become (tree_list element_of es) (listed element_shape cs)
+pub record IsElement (bytes : List ℕ) (names : List Named) (e : Element) (c : CodeElement) :
+    Type 0 where
+  pub becomes : Becomes bytes (element_of e) names Term (element_shape c)
 
-pub record AreSides (ss : List SideOf) (cs : List CodeSide) : Type 0 where
-  pub become : BecomeSides Side (tree_list side_of ss) (listed of_side cs)
+pub record AreElements (bytes : List ℕ) (names : List Named) (es : List Element)
+    (cs : List CodeElement) : Type 0 where
+  pub become : let es' = tree_list element_of es in
+      Become bytes binding_nothing es' names (listed element_shape cs)
 
-pub record AreLineSides (ss : List SideOf) (cs : List LineSide) : Type 0 where
-  pub become : BecomeSides Line (tree_list side_of ss) (listed of_line_side cs)
+pub record AreSides (bytes : List ℕ) (names : List Named) (ss : List SideOf)
+    (cs : List CodeSide) : Type 0 where
+  pub become : BecomeSides bytes Side (tree_list side_of ss) names (listed of_side cs)
 
-pub record ArePairSides (ss : List SideOf) (cs : List PairSide) : Type 0 where
-  pub become : BecomeSides Pair (tree_list side_of ss) (listed of_pair_side cs)
+pub record AreLineSides (bytes : List ℕ) (names : List Named) (ss : List SideOf)
+    (cs : List LineSide) : Type 0 where
+  pub become : BecomeSides bytes Line (tree_list side_of ss) names (listed of_line_side cs)
 
-pub record AreBinders (xs : List Tele) (bs : List Binder) : Type 0 where
-  pub become : Become (tree_list tele_of xs) (listed of_binder bs)
+pub record ArePairSides (bytes : List ℕ) (names : List Named) (ss : List SideOf)
+    (cs : List PairSide) : Type 0 where
+  pub become : BecomeSides bytes Pair (tree_list side_of ss) names (listed of_pair_side cs)
 
-pub record IsDef (d : Def) (c : CodeDef) : Type 0 where
-  pub becomes : Becomes (def_of d) Term (def_shape c)
+-- These become the code one after another, and leave the names `after` in scope.
 
-pub record AreDefs (ds : List Def) (cs : List CodeDef) : Type 0 where
-  pub become : Become (tree_list def_of ds) (listed def_shape cs)
+pub record AreBinders (bytes : List ℕ) (names after : List Named) (xs : List Tele)
+    (bs : List Binder) : Type 0 where
+  pub become : Become bytes (under_tele bytes) (tree_list tele_of xs) names (listed of_binder bs)
+  pub leaves : let xs' = tree_list tele_of xs in
+      after ≡ after_all (under_tele bytes) xs' (listed of_binder bs) names
+
+pub record IsDef (bytes : List ℕ) (names : List Named) (d : Def) (c : CodeDef) : Type 0 where
+  pub becomes : Becomes bytes (def_of d) names Term (def_shape c)
+
+pub record AreDefs (bytes : List ℕ) (names after : List Named) (ds : List Def)
+    (cs : List CodeDef) : Type 0 where
+  pub become : let ds' = tree_list def_of ds in
+      Become bytes (after_definition bytes) ds' names (listed def_shape cs)
+  pub leaves : let ds' = tree_list def_of ds in
+      after ≡ after_all (after_definition bytes) ds' (listed def_shape cs) names

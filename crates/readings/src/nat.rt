@@ -1,11 +1,11 @@
 //! The built-in `nat` in a text.
 
-ghost use Rattle.std.specs.Prelude.{◌≡◌, ℕ, is_some, Some};
-ghost use Rattle.layout_lexer.specs.declared.token.Span.{Span};
+ghost use Rattle.std.specs.Prelude.{◌≡◌, ℕ, is_some};
+ghost use Rattle.syntax.specs.View.{tree_of};
 ghost use Rattle.translation.specs.Names.{Word};
 ghost use Rattle.translation.specs.Scopes.{Scope};
 ghost use Rattle.scopes.specs.Steps.{Agree};
-ghost use Rattle.readings.specs.Shaped.{IsName};
+ghost use Rattle.readings.specs.Shaped.{nat_in};
 ghost use Rattle.readings.specs.Spelt.{is_nat_of};
 
 use layout_lexer::Span;
@@ -18,7 +18,7 @@ use translation::BuiltIn;
 pub fn built_in_nat<'a>(names: &References<'a>, place: &Place<'a>, exp: &Exp) -> Option<Span>
     ensures told { (G : Scope Word) (H : Scope ℕ) → Agree place.now G H
         → is_nat_of names.now.bytes.now exp.now G ≡ is_some result }
-    ensures named { (s : Span) → result ≡ Some s → IsName exp.now s }
+    ensures named { result ≡ nat_in names.now.bytes.now place.now.names (tree_of exp.now) }
 {
     match exp {
         Exp::Name { span } => match place.find(names.spelling(*span)) {

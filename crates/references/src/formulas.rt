@@ -6,7 +6,8 @@ ghost use Rattle.translation.specs.Forms.{all};
 ghost use Rattle.translation.specs.Texts.{equations as the_equations, formula as the_formula};
 ghost use Rattle.translation.specs.Texts.{name_at};
 ghost use Rattle.codes.specs.Codes.{equations as meant, formula as meaning};
-ghost use Rattle.codes.specs.Shapes.{formula_shape};
+ghost use Rattle.codes.specs.FormulaShapes.{formula_shape};
+ghost use Rattle.references.specs.Named.{as_index, equations_in, formula_in, found_at};
 ghost use Rattle.references.specs.Spelt.{index_of};
 ghost use Rattle.scopes.specs.Steps.{Resolves};
 
@@ -20,7 +21,9 @@ use translation::Cause;
 impl<'a> References<'a> {
     /// The index of the name of the interval that is written there; 0 where it is refused.
     fn interval(&self, place: &mut Place<'a>, name: Span) -> u32
-        ensures { Resolves place.old place.new (name_at self.now.bytes.now name) (index_of result) }
+        ensures resolves { Resolves place.old place.new
+            (name_at self.now.bytes.now name) (index_of result) }
+        ensures named { result ≡ as_index (found_at self.now.bytes.now place.old.names name) }
     {
         match place.find(self.spelling(name)) {
             Found::Interval(index) => index,
@@ -51,7 +54,8 @@ impl<'a> References<'a> {
     ) -> Result<Formula, AllocError>
         ensures resolves { IfOk result (λ f. Resolves place.old place.new
             (the_formula self.now.bytes.now (formula_of formula.now)) (meaning f)) }
-        ensures shaped { IfOk result (λ f. formula_shape f ≡ formula_of formula.now) }
+        ensures shaped { IfOk result (λ f. formula_shape f
+            ≡ formula_in self.now.bytes.now place.old.names (formula_of formula.now)) }
     {
         match formula {
             syntax::Formula::Zero(span) => Ok(Formula::Zero(*span)),
@@ -80,8 +84,10 @@ impl<'a> References<'a> {
         place: &mut Place<'a>,
         equations: &[syntax::Equation],
     ) -> Result<Vec<Equation>, AllocError>
-        ensures { IfOk result (λ es. Resolves place.old place.new
+        ensures resolves { IfOk result (λ es. Resolves place.old place.new
             (all (the_equations self.now.bytes.now equations.now)) (all (meant es.items))) }
+        ensures named { IfOk result (λ es.
+            es.items ≡ equations_in self.now.bytes.now place.old.names equations.now) }
     {
         let mut resolved = Vec::new(self.alloc);
         for equation in equations {

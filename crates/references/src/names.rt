@@ -1,9 +1,10 @@
 //! Names where terms are wanted.
 
-ghost use Rattle.std.specs.Prelude.{◌≡◌, ◌⊎◌, IfOk};
+ghost use Rattle.std.specs.Prelude.{◌≡◌, IfOk};
 ghost use Rattle.translation.specs.Texts.{term_at, word};
 ghost use Rattle.codes.specs.Codes.{meaning};
-ghost use Rattle.codes.specs.Shapes.{shape, successor as a_successor, Leaf as a_leaf};
+ghost use Rattle.codes.specs.Shapes.{shape};
+ghost use Rattle.references.specs.Named.{as_term, found_at};
 ghost use Rattle.scopes.specs.Steps.{Resolves};
 
 use codes::Code;
@@ -36,7 +37,8 @@ impl<'a> References<'a> {
     pub fn name(&self, place: &mut Place<'a>, span: Span) -> Result<Code, AllocError>
         ensures resolves { IfOk result (λ c.
             Resolves place.old place.new (term_at self.now.bytes.now span) (meaning c)) }
-        ensures shaped { IfOk result (λ c. (shape c ≡ a_leaf span) ⊎ (shape c ≡ a_successor span)) }
+        ensures shaped { IfOk result (λ c.
+            shape c ≡ as_term span (found_at self.now.bytes.now place.old.names span)) }
     {
         match place.find(self.spelling(span)) {
             Found::Variable(index) => Ok(Code::Bound { span, index }),

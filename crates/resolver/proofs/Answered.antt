@@ -11,11 +11,12 @@ use Rattle.translation.specs.Texts.{word}
 use Rattle.translation.specs.Forms.{Means}
 use Rattle.codes.specs.declared.code.Code.{Code}
 use Rattle.codes.specs.Codes.{meaning}
-use Rattle.codes.specs.Shapes.{shape, Leaf, PairSide}
+use Rattle.codes.specs.Shapes.{shape, Universe, PairSide}
 use Rattle.scopes.specs.declared.names.Found.{Found}
 use Rattle.scopes.specs.declared.names.Found.TheVariants as found
-use Rattle.scopes.specs.Finding.{find}
-use Rattle.scopes.specs.Steps.{State, Resolves}
+use Rattle.scopes.specs.declared.names.Binding.TheVariants as binding
+use Rattle.scopes.specs.Finding.{Named, find}
+use Rattle.scopes.specs.Steps.{State, Progress, Resolves}
 use Rattle.readings.specs.Spelt.{code_pair, code_term, named_of, plain_of}
 use Rattle.readings.proofs.FormLaws.{answer_fits}
 use Rattle.readings.proofs.Applied.{leading, plain_named}
@@ -64,12 +65,20 @@ no_span = record { start = 0; end = 0 }
 
 -- what is no written pair, and what is seen through
 
-pub pair_refused : {E : Type 0} (s : Span) (e : Exp) (r : Result Pair E) → ((c : Code) → IsTerm e c → Becomes (tree_of e) (PairAt s) (PairSide s (shape c) (Leaf s)))
-    → IfOk r (λ p. IsTerm e p.ty × (shape p.equivalence ≡ Leaf s)) → IfOk r (λ p. IsPair s e p.ty p.equivalence)
-pair_refused s e (Ok p) wrap h =
-    record { becomes = subst (λ k. Becomes (tree_of e) (PairAt s) (PairSide s (shape p.ty) k)) (sym h.1) (wrap p.ty h.0) }
-pair_refused s e (Err x) wrap h = tt
+pub pair_refused : {E : Type 0} (bytes : List ℕ) (names : List Named) (s : Span) (e : Exp) (r : Result Pair E)
+    → ((c : Code) → IsTerm bytes names e c → Becomes bytes (tree_of e) names (PairAt s) (PairSide s (shape c) (Universe s)))
+    → IfOk r (λ p. IsTerm bytes names e p.ty × (shape p.equivalence ≡ Universe s)) → IfOk r (λ p. IsPair bytes names s e p.ty p.equivalence)
+pair_refused bytes names s e (Ok p) wrap h =
+    record { becomes = subst (λ k. Becomes bytes (tree_of e) names (PairAt s) (PairSide s (shape p.ty) k)) (sym h.1) (wrap p.ty h.0) }
+pair_refused bytes names s e (Err x) wrap h = tt
 
-pub pair_seen : {E : Type 0} (s : Span) (x e : Exp) (r : Result Pair E) → Same x e → IfOk r (λ p. IsPair s x p.ty p.equivalence) → IfOk r (λ p. IsPair s e p.ty p.equivalence)
-pair_seen s x e (Ok p) same h = record { becomes = same (PairAt s) (PairSide s (shape p.ty) (shape p.equivalence)) h.becomes }
-pair_seen s x e (Err y) same h = tt
+pub pair_seen : {E : Type 0} (bytes : List ℕ) (names : List Named) (s : Span) (x e : Exp) (r : Result Pair E) → Same bytes x e
+    → IfOk r (λ p. IsPair bytes names s x p.ty p.equivalence) → IfOk r (λ p. IsPair bytes names s e p.ty p.equivalence)
+pair_seen bytes names s x e (Ok p) same h = record { becomes = same names (PairAt s) (PairSide s (shape p.ty) (shape p.equivalence)) h.becomes }
+pair_seen bytes names s x e (Err y) same h = tt
+
+-- the names in scope after a definition
+pub defined_names : {older among : List Named} {v : State} {x : Word} {n : ℕ} {p : Progress}
+    → v ≡ record { names = record { word = x; binding = binding.Definition n } ∷ older; so_far = p } → older ≡ among
+    → v.names ≡ record { word = x; binding = binding.Definition n } ∷ among
+defined_names {x = x} {n = n} e same = ap (λ s. s.names) e ∙ ap (λ ns. record { word = x; binding = binding.Definition n } ∷ ns) same

@@ -16,8 +16,9 @@ use Rattle.translation.specs.Names.{Word}
 use Rattle.translation.specs.Texts.{Written, reading, block, defs, word}
 use Rattle.codes.specs.Codes.{meaning, definitions, body_of}
 use Rattle.codes.specs.Shapes.{shape, def_shape, listed}
-use Rattle.scopes.specs.Steps.{count_from}
-use Rattle.readings.specs.Shaped.{Becomes, Become, Term}
+use Rattle.scopes.specs.Finding.{Named}
+use Rattle.scopes.specs.Steps.{count_from, named_of}
+use Rattle.readings.specs.Shaped.{Becomes, Become, Term, after_definition}
 
 -- The names of other modules, each with the body that its number has in a code's scope.
 abbrev pub entry : Scope ℕ → ScopeName → Entry Word
@@ -102,14 +103,20 @@ IsFaultOf bytes names m fault =
 abbrev pub AreEarlier : ℕ → List ScopeName → Type 0
 AreEarlier next = All (λ n. n.def < next)
 
--- The code is made of the forms of the text, each with the piece of the text that it spells.
+-- The code is that which the text becomes among these names, but for the numbers of definitions.
 
-abbrev pub IsSpelt : text.Tree → Code → Type 0
-IsSpelt e c = Becomes e Term (shape c)
+-- the names in scope at the beginning of a text, those of other modules
+abbrev pub names_in : List ScopeName → List Named
+names_in names = map named_of (reverse names)
+
+abbrev pub IsSpelt : List ℕ → List ScopeName → text.Tree → Code → Type 0
+IsSpelt bytes names e c = Becomes bytes e (names_in names) Term (shape c)
 
 abbrev pub definitions_of : text.Tree → text.Trees
 definitions_of (text.Module name imports ds) = ds
 definitions_of _ = text.none
 
-abbrev pub AreSpelt : text.Tree → Codes → Type 0
-AreSpelt m codes = Become (definitions_of m) (listed def_shape (defs_in codes))
+abbrev pub AreSpelt : List ℕ → List ScopeName → text.Tree → Codes → Type 0
+AreSpelt bytes names m codes =
+    let cs = listed def_shape (defs_in codes) in
+    Become bytes (after_definition bytes) (definitions_of m) (names_in names) cs

@@ -7,7 +7,13 @@ ghost use Rattle.translation.specs.Texts.{word};
 ghost use Rattle.scopes.specs.declared.names.Found.TheVariants.{BuiltIn as a_built_in};
 ghost use Rattle.scopes.specs.Finding.{find};
 ghost use Rattle.scopes.specs.Steps.{Resolves};
-ghost use Rattle.readings.specs.Shaped.{AreElements, IsApplied, IsElement, IsTerm};
+ghost use Rattle.readings.specs.Shaped.{
+  AreElements,
+  IsApplied,
+  IsElement,
+  IsPlain,
+  IsTerm,
+};
 ghost use Rattle.readings.specs.Spelt.{
   Applies,
   code_element,
@@ -39,7 +45,8 @@ impl<'a> Resolver<'a> {
         requires { IsApply exp.now }
         ensures resolves { IfOk result (λ c. Resolves place.old place.new
             (term_of self.now.names.bytes.now exp.now) (code_term c)) }
-        ensures spelt { IfOk result (λ c. IsTerm exp.now c) }
+        ensures spelt { IfOk result (λ c.
+            IsTerm self.now.names.bytes.now place.old.names exp.now c) }
     {
         let Exp::Apply {
             span,
@@ -65,7 +72,8 @@ impl<'a> Resolver<'a> {
         requires { IsProject exp.now }
         ensures resolves { IfOk result (λ c. Resolves place.old place.new
             (term_of self.now.names.bytes.now exp.now) (code_term c)) }
-        ensures spelt { IfOk result (λ c. IsTerm exp.now c) }
+        ensures spelt { IfOk result (λ c.
+            IsTerm self.now.names.bytes.now place.old.names exp.now c) }
     {
         let Exp::Project {
             span,
@@ -91,7 +99,8 @@ impl<'a> Resolver<'a> {
     ) -> Result<Code, AllocError>
         ensures resolves { IfOk result (λ c. Resolves place.old place.new
             (named_of self.now.names.bytes.now name elements.now) (code_term c)) }
-        ensures spelt { IfOk result (λ c. IsApplied span name elements.now c) }
+        ensures spelt { IfOk result (λ c.
+            IsApplied self.now.names.bytes.now place.old.names span name elements.now c) }
     {
         match place.find(self.names.spelling(name)) {
             Found::BuiltIn(BuiltIn::Suc) => self.suc(place, span, name, elements),
@@ -118,7 +127,8 @@ impl<'a> Resolver<'a> {
             ≡ a_built_in the_successor }
         ensures resolves { IfOk result (λ c. Resolves place.old place.new
             (named_of self.now.names.bytes.now name elements.now) (code_term c)) }
-        ensures spelt { IfOk result (λ c. IsApplied span name elements.now c) }
+        ensures spelt { IfOk result (λ c.
+            IsApplied self.now.names.bytes.now place.old.names span name elements.now c) }
     {
         let Some((argument, rest)) = first_argument(elements) else {
             return self.plain(place, span, name, elements);
@@ -142,7 +152,8 @@ impl<'a> Resolver<'a> {
             ≡ a_built_in the_recursor }
         ensures resolves { IfOk result (λ c. Resolves place.old place.new
             (named_of self.now.names.bytes.now name elements.now) (code_term c)) }
-        ensures spelt { IfOk result (λ c. IsApplied span name elements.now c) }
+        ensures spelt { IfOk result (λ c.
+            IsApplied self.now.names.bytes.now place.old.names span name elements.now c) }
     {
         let Some((motive, rest)) = first_argument(elements) else {
             return self.plain(place, span, name, elements);
@@ -177,7 +188,8 @@ impl<'a> Resolver<'a> {
     ) -> Result<Code, AllocError>
         ensures resolves { IfOk result (λ c. Resolves place.old place.new
             (plain_of self.now.names.bytes.now name elements.now) (code_term c)) }
-        ensures spelt { IfOk result (λ c. IsApplied span name elements.now c) }
+        ensures spelt { IfOk result (λ c.
+            IsPlain self.now.names.bytes.now place.old.names span name elements.now c) }
     {
         let head = self.names.name(place, name)?;
         let elements = self.elements(place, elements)?;
@@ -193,7 +205,8 @@ impl<'a> Resolver<'a> {
     ) -> Result<Vec<Element>, AllocError>
         ensures resolves { IfOk result (λ es. Applies place.old place.new
             (elements_of self.now.names.bytes.now elements.now) (code_elements es.items)) }
-        ensures spelt { IfOk result (λ es. AreElements elements.now es.items) }
+        ensures spelt { IfOk result (λ es.
+            AreElements self.now.names.bytes.now place.old.names elements.now es.items) }
     {
         let mut resolved = Vec::new(self.names.alloc);
         for element in elements {
@@ -210,7 +223,8 @@ impl<'a> Resolver<'a> {
     ) -> Result<Element, AllocError>
         ensures resolves { IfOk result (λ e. Applies place.old place.new
             (element_of self.now.names.bytes.now element.now ∷ []) (code_element e ∷ [])) }
-        ensures spelt { IfOk result (λ e. IsElement element.now e) }
+        ensures spelt { IfOk result (λ e.
+            IsElement self.now.names.bytes.now place.old.names element.now e) }
     {
         match element {
             Argument(exp) => Ok(Element::Argument(self.exp(place, exp)?)),

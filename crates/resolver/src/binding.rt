@@ -20,7 +20,8 @@ impl<'a> Resolver<'a> {
         requires { IsLet exp.now }
         ensures resolves { IfOk result (λ c. Resolves place.old place.new
             (term_of self.now.names.bytes.now exp.now) (code_term c)) }
-        ensures spelt { IfOk result (λ c. IsTerm exp.now c) }
+        ensures spelt { IfOk result (λ c.
+            IsTerm self.now.names.bytes.now place.old.names exp.now c) }
     {
         let Exp::Let { span, defs, body } = exp else {
             unreachable!();
@@ -38,7 +39,8 @@ impl<'a> Resolver<'a> {
         requires { IsLambda exp.now }
         ensures resolves { IfOk result (λ c. Resolves place.old place.new
             (term_of self.now.names.bytes.now exp.now) (code_term c)) }
-        ensures spelt { IfOk result (λ c. IsTerm exp.now c) }
+        ensures spelt { IfOk result (λ c.
+            IsTerm self.now.names.bytes.now place.old.names exp.now c) }
     {
         let Exp::Lambda { span, teles, body } = exp else {
             unreachable!();
@@ -56,7 +58,8 @@ impl<'a> Resolver<'a> {
         requires { IsPathLambda exp.now }
         ensures resolves { IfOk result (λ c. Resolves place.old place.new
             (term_of self.now.names.bytes.now exp.now) (code_term c)) }
-        ensures spelt { IfOk result (λ c. IsTerm exp.now c) }
+        ensures spelt { IfOk result (λ c.
+            IsTerm self.now.names.bytes.now place.old.names exp.now c) }
     {
         let Exp::PathLambda { span, names, body } = exp else {
             unreachable!();
@@ -75,7 +78,8 @@ impl<'a> Resolver<'a> {
         requires { IsPi exp.now }
         ensures resolves { IfOk result (λ c. Resolves place.old place.new
             (term_of self.now.names.bytes.now exp.now) (code_term c)) }
-        ensures spelt { IfOk result (λ c. IsTerm exp.now c) }
+        ensures spelt { IfOk result (λ c.
+            IsTerm self.now.names.bytes.now place.old.names exp.now c) }
     {
         let Exp::Pi { span, teles, body } = exp else {
             unreachable!();
@@ -93,7 +97,8 @@ impl<'a> Resolver<'a> {
         requires { IsSigma exp.now }
         ensures resolves { IfOk result (λ c. Resolves place.old place.new
             (term_of self.now.names.bytes.now exp.now) (code_term c)) }
-        ensures spelt { IfOk result (λ c. IsTerm exp.now c) }
+        ensures spelt { IfOk result (λ c.
+            IsTerm self.now.names.bytes.now place.old.names exp.now c) }
     {
         let Exp::Sigma { span, teles, body } = exp else {
             unreachable!();
@@ -111,7 +116,8 @@ impl<'a> Resolver<'a> {
         requires { IsArrow exp.now }
         ensures resolves { IfOk result (λ c. Resolves place.old place.new
             (term_of self.now.names.bytes.now exp.now) (code_term c)) }
-        ensures spelt { IfOk result (λ c. IsTerm exp.now c) }
+        ensures spelt { IfOk result (λ c.
+            IsTerm self.now.names.bytes.now place.old.names exp.now c) }
     {
         let Exp::Arrow { span, from, to } = exp else {
             unreachable!();

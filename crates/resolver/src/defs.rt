@@ -35,7 +35,8 @@ impl<'a> Resolver<'a> {
     ) -> Result<Vec<CodeDef>, AllocError>
         ensures opens { IfOk result (λ cs. Opens place.old place.new
             (block_of self.now.names.bytes.now defs.now) (code_block cs.items)) }
-        ensures spelt { IfOk result (λ cs. AreDefs defs.now cs.items) }
+        ensures spelt { let bytes = self.now.names.bytes.now in
+            IfOk result (λ cs. AreDefs bytes place.old.names place.new.names defs.now cs.items) }
         ensures named { IfOk result (λ cs. code_names cs.items ≡ def_names defs.now) }
     {
         let first = place.next();
@@ -53,7 +54,8 @@ impl<'a> Resolver<'a> {
     fn def(&self, place: &mut Place<'a>, def: &Def) -> Result<CodeDef, AllocError>
         ensures defines { IfOk result (λ c. Defines place.old place.new (number_of c)
             (means_of self.now.names.bytes.now def.now) (code_def c)) }
-        ensures spelt { IfOk result (λ c. IsDef def.now c) }
+        ensures spelt { IfOk result (λ c.
+            IsDef self.now.names.bytes.now place.old.names def.now c) }
         ensures named { IfOk result (λ c. (out-CodeDef c).name ≡ (out-Def def.now).name) }
     {
         let mark = place.mark();
@@ -76,7 +78,9 @@ impl<'a> Resolver<'a> {
     ) -> Result<Vec<Binder>, AllocError>
         ensures resolves { IfOk result (λ bs. Binds place.old place.new
             (binders_of self.now.names.bytes.now teles.now) (code_binders bs.items)) }
-        ensures spelt { IfOk result (λ bs. AreBinders teles.now bs.items) }
+        ensures spelt { let bytes = self.now.names.bytes.now in
+            IfOk result (λ bs.
+            AreBinders bytes place.old.names place.new.names teles.now bs.items) }
     {
         let mut binders = Vec::new(self.names.alloc);
         for tele in teles {

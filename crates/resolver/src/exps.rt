@@ -21,7 +21,8 @@ impl<'a> Resolver<'a> {
     pub(crate) fn exp(&self, place: &mut Place<'a>, exp: &Exp) -> Result<Code, AllocError>
         ensures resolves { IfOk result (λ c. Resolves place.old place.new
             (term_of self.now.names.bytes.now exp.now) (code_term c)) }
-        ensures spelt { IfOk result (λ c. IsTerm exp.now c) }
+        ensures spelt { IfOk result (λ c.
+            IsTerm self.now.names.bytes.now place.old.names exp.now c) }
     {
         match exp {
             Exp::Let { .. } => self.let_in(place, exp),
@@ -58,7 +59,8 @@ impl<'a> Resolver<'a> {
         ensures resolves { let bytes = self.now.names.bytes.now in
             IfOk result (λ c. Resolves place.old place.new
             (tupled (map (term_of bytes) components.now)) (code_term c)) }
-        ensures spelt { IfOk result (λ c. IsTuple span components.now c) }
+        ensures spelt { IfOk result (λ c.
+            IsTuple self.now.names.bytes.now place.old.names span components.now c) }
     {
         Ok(tuple(span, self.exps(place, components)?))
     }
@@ -68,7 +70,8 @@ impl<'a> Resolver<'a> {
     pub(crate) fn exps(&self, place: &mut Place<'a>, exps: &[Exp]) -> Result<Vec<Code>, AllocError>
         ensures resolves { IfOk result (λ cs. Resolves place.old place.new
             (terms_of self.now.names.bytes.now exps.now) (code_terms cs.items)) }
-        ensures spelt { IfOk result (λ cs. AreTerms exps.now cs.items) }
+        ensures spelt { IfOk result (λ cs.
+            AreTerms self.now.names.bytes.now place.old.names exps.now cs.items) }
     {
         let mut resolved = Vec::new(self.names.alloc);
         for exp in exps {

@@ -19,7 +19,8 @@ impl<'a> Resolver<'a> {
         requires { IsGlueType exp.now }
         ensures resolves { IfOk result (λ c. Resolves place.old place.new
             (term_of self.now.names.bytes.now exp.now) (code_term c)) }
-        ensures spelt { IfOk result (λ c. IsTerm exp.now c) }
+        ensures spelt { IfOk result (λ c.
+            IsTerm self.now.names.bytes.now place.old.names exp.now c) }
     {
         let Exp::GlueType { span, base, sides } = exp else {
             unreachable!();
@@ -35,7 +36,8 @@ impl<'a> Resolver<'a> {
         requires { IsGlueTerm exp.now }
         ensures resolves { IfOk result (λ c. Resolves place.old place.new
             (term_of self.now.names.bytes.now exp.now) (code_term c)) }
-        ensures spelt { IfOk result (λ c. IsTerm exp.now c) }
+        ensures spelt { IfOk result (λ c.
+            IsTerm self.now.names.bytes.now place.old.names exp.now c) }
     {
         let Exp::GlueTerm { span, base, sides } = exp else {
             unreachable!();
@@ -51,7 +53,8 @@ impl<'a> Resolver<'a> {
         requires { IsUnglue exp.now }
         ensures resolves { IfOk result (λ c. Resolves place.old place.new
             (term_of self.now.names.bytes.now exp.now) (code_term c)) }
-        ensures spelt { IfOk result (λ c. IsTerm exp.now c) }
+        ensures spelt { IfOk result (λ c.
+            IsTerm self.now.names.bytes.now place.old.names exp.now c) }
     {
         let Exp::Unglue { span, base, sides } = exp else {
             unreachable!();

@@ -20,7 +20,8 @@ impl<'a> Resolver<'a> {
         requires { IsPathType exp.now }
         ensures resolves { IfOk result (λ c. Resolves place.old place.new
             (term_of self.now.names.bytes.now exp.now) (code_term c)) }
-        ensures spelt { IfOk result (λ c. IsTerm exp.now c) }
+        ensures spelt { IfOk result (λ c.
+            IsTerm self.now.names.bytes.now place.old.names exp.now c) }
     {
         let Exp::PathP {
             span,
@@ -43,7 +44,8 @@ impl<'a> Resolver<'a> {
         requires { IsComp exp.now }
         ensures resolves { IfOk result (λ c. Resolves place.old place.new
             (term_of self.now.names.bytes.now exp.now) (code_term c)) }
-        ensures spelt { IfOk result (λ c. IsTerm exp.now c) }
+        ensures spelt { IfOk result (λ c.
+            IsTerm self.now.names.bytes.now place.old.names exp.now c) }
     {
         let Exp::Comp {
             span,
@@ -66,7 +68,8 @@ impl<'a> Resolver<'a> {
         requires { IsFill exp.now }
         ensures resolves { IfOk result (λ c. Resolves place.old place.new
             (term_of self.now.names.bytes.now exp.now) (code_term c)) }
-        ensures spelt { IfOk result (λ c. IsTerm exp.now c) }
+        ensures spelt { IfOk result (λ c.
+            IsTerm self.now.names.bytes.now place.old.names exp.now c) }
     {
         let Exp::Fill {
             span,
@@ -89,7 +92,8 @@ impl<'a> Resolver<'a> {
         requires { IsTransport exp.now }
         ensures resolves { IfOk result (λ c. Resolves place.old place.new
             (term_of self.now.names.bytes.now exp.now) (code_term c)) }
-        ensures spelt { IfOk result (λ c. IsTerm exp.now c) }
+        ensures spelt { IfOk result (λ c.
+            IsTerm self.now.names.bytes.now place.old.names exp.now c) }
     {
         let Exp::Transport { span, line, base } = exp else {
             unreachable!();

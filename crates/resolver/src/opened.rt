@@ -24,7 +24,8 @@ impl<'a> Resolver<'a> {
     ) -> Result<Opened, AllocError>
         ensures resolves { IfOk result (λ l. Resolves place.old place.new
             (line_of self.now.names.bytes.now exp.now) (code_line l)) }
-        ensures spelt { IfOk result (λ l. IsLine span exp.now l) }
+        ensures spelt { IfOk result (λ l.
+            IsLine self.now.names.bytes.now place.old.names span exp.now l) }
     {
         match exp {
             Exp::Brackets {
@@ -66,7 +67,8 @@ impl<'a> Resolver<'a> {
     ) -> Result<Opened, AllocError>
         ensures resolves { IfOk result (λ m. Resolves place.old place.new
             (motive_of self.now.names.bytes.now exp.now) (code_motive m)) }
-        ensures spelt { IfOk result (λ m. IsMotive span exp.now m) }
+        ensures spelt { IfOk result (λ m.
+            IsMotive self.now.names.bytes.now place.old.names span exp.now m) }
     {
         match exp {
             Exp::Brackets {

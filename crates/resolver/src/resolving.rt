@@ -76,7 +76,8 @@ pub fn resolve(
     requires { AreEarlier scope.now.next scope.now.names }
     ensures ok { let now = scope.now in
         IfOk result (AreCodes bytes.now now.names now.next (module_of «module».now)) }
-    ensures spelt { IfOk result (λ codes. AreSpelt (module_of «module».now) codes) }
+    ensures spelt { let names = scope.now.names in
+        IfOk result (AreSpelt bytes.now names (module_of «module».now)) }
     ensures err { IfErr result (IsFaultOf bytes.now scope.now.names (module_of «module».now)) }
 {
     let Ok(mut place) = Place::new(alloc, scope) else {
@@ -107,7 +108,7 @@ pub fn resolve_exp(
     requires { AreEarlier scope.now.next scope.now.names }
     ensures ok { let now = scope.now in
         IfOk result (IsCode bytes.now now.names now.next (tree_of exp.now)) }
-    ensures spelt { IfOk result (λ code. IsSpelt (tree_of exp.now) code) }
+    ensures spelt { IfOk result (IsSpelt bytes.now scope.now.names (tree_of exp.now)) }
     ensures err { IfErr result (IsFault bytes.now scope.now.names (tree_of exp.now)) }
 {
     let Ok(mut place) = Place::new(alloc, scope) else {

@@ -1,7 +1,7 @@
 //! The sides of systems.
 
 ghost use Rattle.std.specs.Prelude.{◌≡◌, IfOk};
-ghost use Rattle.codes.specs.Shapes.{shape, Leaf as a_leaf};
+ghost use Rattle.codes.specs.Shapes.{shape, Universe as a_universe};
 ghost use Rattle.scopes.specs.Steps.{Resolves};
 ghost use Rattle.readings.specs.Shaped.{AreLineSides, ArePairSides, AreSides, IsPair, IsTerm};
 ghost use Rattle.readings.specs.Spelt.{
@@ -42,7 +42,8 @@ impl<'a> Resolver<'a> {
     ) -> Result<Vec<Side>, AllocError>
         ensures resolves { IfOk result (λ ss. Resolves place.old place.new
             (term_sides_of self.now.names.bytes.now sides.now) (code_term_sides ss.items)) }
-        ensures spelt { IfOk result (λ ss. AreSides sides.now ss.items) }
+        ensures spelt { IfOk result (λ ss.
+            AreSides self.now.names.bytes.now place.old.names sides.now ss.items) }
     {
         let mut resolved = Vec::new(self.names.alloc);
         for side in sides {
@@ -67,7 +68,8 @@ impl<'a> Resolver<'a> {
     ) -> Result<Vec<LineSide>, AllocError>
         ensures resolves { IfOk result (λ ss. Resolves place.old place.new
             (line_sides_of self.now.names.bytes.now sides.now) (code_line_sides ss.items)) }
-        ensures spelt { IfOk result (λ ss. AreLineSides sides.now ss.items) }
+        ensures spelt { IfOk result (λ ss.
+            AreLineSides self.now.names.bytes.now place.old.names sides.now ss.items) }
     {
         let mut resolved = Vec::new(self.names.alloc);
         for side in sides {
@@ -87,7 +89,8 @@ impl<'a> Resolver<'a> {
     ) -> Result<Vec<PairSide>, AllocError>
         ensures resolves { IfOk result (λ ss. Resolves place.old place.new
             (pair_sides_of self.now.names.bytes.now sides.now) (code_pair_sides ss.items)) }
-        ensures spelt { IfOk result (λ ss. ArePairSides sides.now ss.items) }
+        ensures spelt { IfOk result (λ ss.
+            ArePairSides self.now.names.bytes.now place.old.names sides.now ss.items) }
     {
         let mut resolved = Vec::new(self.names.alloc);
         for side in sides {
@@ -109,7 +112,8 @@ impl<'a> Resolver<'a> {
     fn pair(&self, place: &mut Place<'a>, span: Span, exp: &Exp) -> Result<Pair, AllocError>
         ensures resolves { IfOk result (λ p. Resolves place.old place.new
             (pair_of self.now.names.bytes.now span.start exp.now) (code_pair p.ty p.equivalence)) }
-        ensures spelt { IfOk result (λ p. IsPair span exp.now p.ty p.equivalence) }
+        ensures spelt { IfOk result (λ p.
+            IsPair self.now.names.bytes.now place.old.names span exp.now p.ty p.equivalence) }
     {
         match exp {
             Exp::Brackets {
@@ -144,8 +148,9 @@ impl<'a> Resolver<'a> {
         ensures resolves { IfOk result (λ p. Resolves place.old place.new
             (no_pair_of self.now.names.bytes.now span.start exp.now)
             (code_pair p.ty p.equivalence)) }
-        ensures spelt { IfOk result (λ p.
-            IsTerm exp.now p.ty × (shape p.equivalence ≡ a_leaf span)) }
+        ensures spelt { let bytes = self.now.names.bytes.now in
+            IfOk result (λ p. IsTerm bytes place.old.names exp.now p.ty
+            × (shape p.equivalence ≡ a_universe span)) }
     {
         let ty = self.exp(place, exp)?;
         place.refuse(span.start, Cause::GlueSide);

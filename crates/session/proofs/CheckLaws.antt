@@ -22,7 +22,8 @@ use Rattle.session.specs.declared.outcome.Outcome.TheVariants as outcome
 use Rattle.session.specs.Outcomes.{IsCounted, StoresNothing}
 use Rattle.codes.specs.declared.code.CodeDef.{CodeDef}
 use Rattle.resolver.specs.Resolved.{defs_in}
-use Rattle.bidirect.specs.Checked.{AreChecked, other_place}
+use Rattle.bidirect.specs.Checked.{AreChecked}
+use Rattle.direct.specs.Direct.{other_place}
 use Rattle.bidirect.specs.declared.checker.Checked.TheVariants.{Direct}
 use Rattle.session.specs.declared.program.Program.{Program}
 use Rattle.session.specs.declared.check_command.Found.TheVariants as found

@@ -19,8 +19,7 @@ use Rattle.module_texts.specs.declared.text.ModuleText.{ModuleText}
 use Rattle.linking.specs.Modules.{names_in}
 use Rattle.linking.specs.Linked.{IsLinked}
 use Rattle.direct.specs.Known.{Known}
-use Rattle.direct.specs.Direct.{def_typing}
-use Rattle.bidirect.specs.Checked.{other_place, place_after}
+use Rattle.direct.specs.Direct.{def_typing, other_place, place_after}
 use Rattle.session.specs.Checks.{Place, places, places_in}
 
 -- lists

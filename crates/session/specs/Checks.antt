@@ -19,7 +19,7 @@ use Rattle.linking.specs.Modules.{judgements, names_in}
 use Rattle.book.specs.declared.kernel.NodeId.{NodeId}
 use Rattle.book_writer.specs.Written.{IsWritten}
 use Rattle.bidirect.specs.declared.state.Root.{Root}
-use Rattle.bidirect.specs.Checked.{other_place}
+use Rattle.direct.specs.Direct.{other_place}
 use Rattle.session.specs.declared.outcome.Outcome.{Outcome}
 use Rattle.session.specs.declared.outcome.Outcome.TheVariants as outcome
 use Rattle.session.specs.declared.refusal.Cause.TheVariants as cause

@@ -1,4 +1,4 @@
-use Rattle.std.proofs.Common.{sym, ◌∙◌}
+use Rattle.std.proofs.Common.{ap, sym, ◌∙◌}
 use Rattle.resolver.proofs.Wholes.{codes_hold, codes_refused}
 use Rattle.readings.proofs.Shaping.{block_spelt}
 use Rattle.resolver.proofs.resolving.resolve.Goals as goal
@@ -12,4 +12,4 @@ returns-clause-err c =
     codes_refused c.args.scope.now.names c.args.scope.now.next c.args.bytes.now _ _ c.args.module.now _ _ c.in-Some.refusal c.fault.result c.requires c.in-Ok.ensures c.as_slice.ensures c.in-Ok-block.ensures.opens (sym c.refusal.ensures ∙ c.in-Some.is) c.fault.ensures
 
 pub returns-in-None-clause-spelt : goal.returns-in-None-clause-spelt
-returns-in-None-clause-spelt c = block_spelt c.args.module.now.defs c.as_slice.ensures c.in-Ok-block.ensures.spelt
+returns-in-None-clause-spelt c = block_spelt c.args.module.now.defs (ap (λ s. s.names) c.in-Ok.ensures) c.as_slice.ensures c.in-Ok-block.ensures.spelt

@@ -1,4 +1,5 @@
-use Rattle.std.proofs.Common.{sym, ◌∙◌}
+use Rattle.std.proofs.Common.{ap, sym, ◌∙◌}
+use Rattle.readings.proofs.Shaping.{term_among}
 use Rattle.resolver.proofs.Wholes.{exp_holds, exp_refused}
 use Rattle.resolver.proofs.resolving.resolve_exp.Goals as goal
 
@@ -11,4 +12,4 @@ returns-clause-err c =
     exp_refused c.args.scope.now.names c.args.scope.now.next c.args.bytes.now _ _ c.args.exp.now c.in-Ok-exp.code c.in-Some.refusal c.fault.result c.requires c.in-Ok.ensures c.in-Ok-exp.ensures.resolves (sym c.refusal.ensures ∙ c.in-Some.is) c.fault.ensures
 
 pub returns-in-None-clause-spelt : goal.returns-in-None-clause-spelt
-returns-in-None-clause-spelt c = c.in-Ok-exp.ensures.spelt.becomes
+returns-in-None-clause-spelt c = (term_among (ap (λ s. s.names) c.in-Ok.ensures) c.in-Ok-exp.ensures.spelt).becomes

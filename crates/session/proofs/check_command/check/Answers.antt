@@ -1,6 +1,6 @@
 use Rattle.std.proofs.Common.{◌≡◌, ◌<◌, [], subst, length, refl, Some}
 use Rattle.edge.specs.Seen.{seen_files}
-use Rattle.bidirect.specs.Checked.{other_place}
+use Rattle.direct.specs.Direct.{other_place}
 use Rattle.session.specs.Loaded.{IsProgram, IsRead}
 use Rattle.session.specs.Checks.{IsChecked, IsDerived, Stores}
 use Rattle.session.proofs.PlaceLaws.{other_inside}

@@ -1,7 +1,7 @@
 use Rattle.std.proofs.Common.{length, sym, ◌∙◌, ap, subst}
 use Rattle.syntax.specs.View.{module_of}
 use Rattle.module_texts.specs.Texts.{imports_of}
-use Rattle.resolver.specs.Resolved.{AreCodes, IsFaultOf}
+use Rattle.resolver.specs.Resolved.{AreCodes, AreSpelt, IsFaultOf}
 use Rattle.linking.specs.Reaching.{Sees}
 use Rattle.linking.proofs.LinkLaws.{kept_length, links, refused_next, scope_earlier, seen_of}
 use Rattle.linking.proofs.linked.Linker.add.Goals as goal
@@ -26,4 +26,5 @@ returns-in-Ok-keep-clause-ok c =
     links c.args.before.now c.args.text.now c.args.self.now c.requires c.in-Ok.imports.items c.in-Ok-scope_of.scope c.in-Ok.ensures
     (seen_of c.deref.ensures.value c.deref-2.ensures.value c.next.ensures c.in-Ok-scope_of.ensures) c.in-Ok-resolve.codes c.keep.new.self
     (subst (λ bytes. AreCodes bytes c.in-Ok-scope_of.scope.names c.in-Ok-scope_of.scope.next (module_of c.args.text.now.module) c.in-Ok-resolve.codes) c.deref-3.ensures.value c.in-Ok-resolve.ensures.ok)
-    c.in-Ok-resolve.ensures.spelt c.in-Ok-keep.ensures
+    (subst (λ bytes. AreSpelt bytes c.in-Ok-scope_of.scope.names (module_of c.args.text.now.module) c.in-Ok-resolve.codes) c.deref-3.ensures.value c.in-Ok-resolve.ensures.spelt)
+    c.in-Ok-keep.ensures

@@ -1,9 +1,9 @@
-use Rattle.std.proofs.Common.{◌∷◌, length, get_or, map, is_some, inl, refl, sym, ap, ◌∙◌, subst, arith}
+use Rattle.std.proofs.Common.{◌∷◌, length, get_or, map, is_some, codes, [], refl, sym, ap, ◌∙◌, subst, arith}
 use Rattle.codes.specs.declared.code.CodeDef.{out-CodeDef}
 use Rattle.readings.specs.Spelt.{plain_of, words_of}
-use Rattle.translation.specs.Terms.{lam, pi, sig}
+use Rattle.translation.specs.Terms.{lam, pi, sig, universe}
 use Rattle.translation.specs.Forms.{all, project}
-use Rattle.translation.specs.Texts.{equations}
+use Rattle.translation.specs.Texts.{equations, word}
 use Rattle.scopes.specs.declared.names.Binding.TheVariants as binding
 use Rattle.scopes.specs.Steps.{all_bound_to}
 use Rattle.readings.proofs.Spelling.{let_is, lambda_is, path_lambda_is, pi_is, sigma_is, arrow_is, named_is, applied_is, path_type_is, comp_is, fill_is, transport_is, glue_type_is, glue_term_is, unglue_is, project_is, universe_is, name_is, brackets_is}
@@ -13,7 +13,7 @@ use Rattle.readings.proofs.Slices.{rest_after, none, only_one, begins, front_one
 use Rattle.readings.proofs.Others.{inside_brackets, inside_path, same_line, same_motive, same_pair, several_line, several_motive, none_pair, several_pair, names_line, names_motive, names_pair, bare_motive, other_type, no_variable, first_variable, other_line, other_motive, other_pair}
 use Rattle.readings.proofs.Openings.{applied_line, applied_motive, written_line, written_motive}
 use Rattle.readings.proofs.Applied.{leading_none, leading_more, suc_named, natrec_named}
-use Rattle.resolver.proofs.Answered.{few_named, four_arguments, front_any, made_answers, no_span, other_named, pair_answer_is, pair_refused, pair_seen}
+use Rattle.resolver.proofs.Answered.{few_named, four_arguments, front_any, made_answers, defined_names, no_span, other_named, pair_answer_is, pair_refused, pair_seen}
 use Rattle.layout_lexer.specs.declared.token.Span.{Span}
 use Rattle.readings.proofs.Definitions.{def_resolves}
 use Rattle.readings.specs.Spelt.{code_terms, motive_of, terms_of}
@@ -21,7 +21,7 @@ use Rattle.scopes.specs.Finding.{find}
 use Rattle.scopes.specs.Steps.{Resolves, bound_to}
 use Rattle.scopes.specs.declared.names.Found.TheVariants as found
 use Rattle.translation.specs.declared.built_in.BuiltIn.TheVariants as built_in
-use Rattle.readings.proofs.Shaping.{made, let_tree, lambda_tree, pi_tree, sigma_tree, path_lambda_tree, arrow_tree, apply_tree, path_type_tree, comp_tree, fill_tree, transport_tree, glue_type_tree, glue_term_tree, unglue_tree, project_tree, under_names, line_at, named_term, universe_term, name_term, brackets_term, tuple_spelt, made_applied, suc_applied, natrec_applied, argument_spelt, at_spelt, brackets_seen, path_seen, line_seen, motive_seen, line_wrapped, motive_wrapped, pair_wrapped, several_line_spelt, several_motive_spelt, names_motive_spelt, lambda_motive_spelt, none_pair_spelt, names_pair_spelt, written_line_spelt, bare_motive_spelt, opened_motive_spelt, several_pair_spelt, def_spelt, terms_spelt_none, terms_spelt_more, elements_spelt_none, elements_spelt_more, binders_spelt_none, binders_spelt_more, defs_spelt_none, defs_spelt_more, sides_spelt_none, sides_spelt_more, line_sides_spelt_none, line_sides_spelt_more, pair_sides_spelt_none, pair_sides_spelt_more}
+use Rattle.readings.proofs.Shaping.{made, let_tree, lambda_tree, pi_tree, sigma_tree, path_lambda_tree, arrow_tree, apply_tree, path_type_tree, comp_tree, fill_tree, transport_tree, glue_type_tree, glue_term_tree, unglue_tree, project_tree, under_names, line_at, named_term, universe_term, name_term, brackets_term, tuple_spelt, suc_applied, natrec_applied, argument_spelt, at_spelt, brackets_seen, path_seen, line_seen, motive_seen, line_wrapped, motive_wrapped, pair_wrapped, several_line_spelt, several_motive_spelt, names_motive_spelt, none_pair_spelt, names_pair_spelt, written_line_spelt, bare_motive_spelt, opened_motive_spelt, several_pair_spelt, def_spelt, terms_spelt_none, terms_spelt_more, elements_spelt_none, elements_spelt_more, binders_spelt_none, binders_spelt_more, defs_spelt_none, defs_spelt_more, sides_spelt_none, sides_spelt_more, line_sides_spelt_none, line_sides_spelt_more, pair_sides_spelt_none, pair_sides_spelt_more, term_among, line_among, pair_among, element_among, terms_among, elements_among, sides_among, line_sides_among, pair_sides_among, names_bound, first_bound, equations_among, applied_term, plain_made, few_applied, other_applied, other_motive_spelt, nameless_motive_spelt}
 use Rattle.resolver.proofs.resolving.Resolver.+resolve.Goals as goal
 
 -- texts that bind names
@@ -176,7 +176,8 @@ exps-loop-exp-preserved t c =
           exps_more c.args.self.now.names.bytes.now _ _ _ _ _ _ (one_more c.args.exps.now c.loop-exp.exp-index c.exp-item.result (omega arith) c.exp-item.is)
           c.in_ok-push.ensures.items c.loop-exp.invariant.resolves c.in_ok-exp.ensures.resolves;
       spelt =
-          terms_spelt_more _ _ _ _ _ _ (one_more c.args.exps.now c.loop-exp.exp-index c.exp-item.result (omega arith) c.exp-item.is) c.in_ok-push.ensures.items c.loop-exp.invariant.spelt c.in_ok-exp.ensures.spelt;
+          terms_spelt_more _ _ _ _ _ _ (one_more c.args.exps.now c.loop-exp.exp-index c.exp-item.result (omega arith) c.exp-item.is) c.in_ok-push.ensures.items c.loop-exp.invariant.spelt
+          (term_among c.loop-exp.invariant.resolves.keeps.names c.in_ok-exp.ensures.spelt);
     }
 
 -- what heads are applied to
@@ -197,7 +198,8 @@ elements-loop-element-preserved t c =
           elements_more c.args.self.now.names.bytes.now _ _ _ _ _ _ (one_more c.args.elements.now c.loop-element.element-index c.element-item.result (omega arith) c.element-item.is)
           c.in_ok-push.ensures.items c.loop-element.invariant.resolves c.in_ok-element.ensures.resolves;
       spelt =
-          elements_spelt_more _ _ _ _ _ _ (one_more c.args.elements.now c.loop-element.element-index c.element-item.result (omega arith) c.element-item.is) c.in_ok-push.ensures.items c.loop-element.invariant.spelt c.in_ok-element.ensures.spelt;
+          elements_spelt_more _ _ _ _ _ _ (one_more c.args.elements.now c.loop-element.element-index c.element-item.result (omega arith) c.element-item.is) c.in_ok-push.ensures.items c.loop-element.invariant.spelt
+          (element_among (c.loop-element.invariant.resolves.applies universe).keeps.names c.in_ok-element.ensures.spelt);
     }
 
 -- sides
@@ -216,9 +218,11 @@ sides-loop-side-preserved t c =
     record {
       resolves =
           sides_more c.args.self.now.names.bytes.now _ _ _ _ _ _ (one_more c.args.sides.now c.loop-side.side-index c.side-item.result (omega arith) c.side-item.is)
-          c.in_ok-push.ensures.items c.loop-side.invariant.resolves (text_is (ap (λ q. all (equations c.args.self.now.names.bytes.now q)) c.as_slice.ensures) c.in_ok-equations.ensures) c.in_ok-body.ensures.resolves;
+          c.in_ok-push.ensures.items c.loop-side.invariant.resolves (text_is (ap (λ q. all (equations c.args.self.now.names.bytes.now q)) c.as_slice.ensures) c.in_ok-equations.ensures.resolves) c.in_ok-body.ensures.resolves;
       spelt =
-          sides_spelt_more _ _ _ _ _ _ (one_more c.args.sides.now c.loop-side.side-index c.side-item.result (omega arith) c.side-item.is) c.in_ok-push.ensures.items c.span_of-span.ensures c.loop-side.invariant.spelt c.in_ok-body.ensures.spelt;
+          sides_spelt_more _ _ _ _ _ _ (one_more c.args.sides.now c.loop-side.side-index c.side-item.result (omega arith) c.side-item.is) c.in_ok-push.ensures.items c.span_of-span.ensures
+          (equations_among c.args.self.now.names.bytes.now c.loop-side.invariant.resolves.keeps.names c.in_ok-equations.ensures.named c.as_slice.ensures) c.loop-side.invariant.spelt
+          (term_among (c.in_ok-equations.ensures.resolves.keeps.names ∙ c.loop-side.invariant.resolves.keeps.names) c.in_ok-body.ensures.spelt);
     }
 
 pub line_sides-loop-side-init : goal.line_sides-loop-side-init
@@ -235,9 +239,11 @@ line_sides-loop-side-preserved t c =
     record {
       resolves =
           line_sides_more c.args.self.now.names.bytes.now _ _ _ _ _ _ (one_more c.args.sides.now c.loop-side.side-index c.side-item.result (omega arith) c.side-item.is)
-          c.in_ok-push.ensures.items c.loop-side.invariant.resolves (text_is (ap (λ q. all (equations c.args.self.now.names.bytes.now q)) c.as_slice.ensures) c.in_ok-equations.ensures) c.in_ok-body.ensures.resolves;
+          c.in_ok-push.ensures.items c.loop-side.invariant.resolves (text_is (ap (λ q. all (equations c.args.self.now.names.bytes.now q)) c.as_slice.ensures) c.in_ok-equations.ensures.resolves) c.in_ok-body.ensures.resolves;
       spelt =
-          line_sides_spelt_more _ _ _ _ _ _ (one_more c.args.sides.now c.loop-side.side-index c.side-item.result (omega arith) c.side-item.is) c.in_ok-push.ensures.items c.span_of.ensures c.loop-side.invariant.spelt c.in_ok-body.ensures.spelt;
+          line_sides_spelt_more _ _ _ _ _ _ (one_more c.args.sides.now c.loop-side.side-index c.side-item.result (omega arith) c.side-item.is) c.in_ok-push.ensures.items c.span_of.ensures
+          (equations_among c.args.self.now.names.bytes.now c.loop-side.invariant.resolves.keeps.names c.in_ok-equations.ensures.named c.as_slice.ensures) c.loop-side.invariant.spelt
+          (line_among (c.in_ok-equations.ensures.resolves.keeps.names ∙ c.loop-side.invariant.resolves.keeps.names) c.in_ok-body.ensures.spelt);
     }
 
 pub pair_sides-loop-side-init : goal.pair_sides-loop-side-init
@@ -254,9 +260,11 @@ pair_sides-loop-side-preserved t c =
     record {
       resolves =
           pair_sides_more c.args.self.now.names.bytes.now _ _ _ _ _ _ (one_more c.args.sides.now c.loop-side.side-index c.side-item.result (omega arith) c.side-item.is)
-          c.in_ok-push.ensures.items (ap (λ s. s.start) c.span_of-span.ensures) c.loop-side.invariant.resolves (text_is (ap (λ q. all (equations c.args.self.now.names.bytes.now q)) c.as_slice.ensures) c.in_ok-equations.ensures) c.in_ok-pair.ensures.resolves;
+          c.in_ok-push.ensures.items (ap (λ s. s.start) c.span_of-span.ensures) c.loop-side.invariant.resolves (text_is (ap (λ q. all (equations c.args.self.now.names.bytes.now q)) c.as_slice.ensures) c.in_ok-equations.ensures.resolves) c.in_ok-pair.ensures.resolves;
       spelt =
-          pair_sides_spelt_more _ _ _ _ _ _ (one_more c.args.sides.now c.loop-side.side-index c.side-item.result (omega arith) c.side-item.is) c.in_ok-push.ensures.items c.span_of-span.ensures c.loop-side.invariant.spelt c.in_ok-pair.ensures.spelt;
+          pair_sides_spelt_more _ _ _ _ _ _ (one_more c.args.sides.now c.loop-side.side-index c.side-item.result (omega arith) c.side-item.is) c.in_ok-push.ensures.items c.span_of-span.ensures
+          (equations_among c.args.self.now.names.bytes.now c.loop-side.invariant.resolves.keeps.names c.in_ok-equations.ensures.named c.as_slice.ensures) c.loop-side.invariant.spelt
+          (pair_among (c.in_ok-equations.ensures.resolves.keeps.names ∙ c.loop-side.invariant.resolves.keeps.names) c.in_ok-pair.ensures.spelt);
     }
 
 -- teles and definitions
@@ -278,7 +286,9 @@ binders-loop-tele-preserved t c =
           c.in_ok-push.ensures.items (ap length c.as_slice-names.ensures)
           (c.in_ok-bind_all.ensures ∙ ap (λ ns. all_bound_to c.exp.new.place (words_of c.args.self.now.names.bytes.now ns) binding.Variable) c.as_slice-names.ensures) c.loop-tele.invariant.resolves c.in_ok-ty.ensures.resolves;
       spelt =
-          binders_spelt_more _ _ _ _ _ _ _ (one_more c.args.teles.now c.loop-tele.tele-index c.tele-item.result (omega arith) c.tele-item.is) c.in_ok-push.ensures.items (ap length c.as_slice-names.ensures) c.loop-tele.invariant.spelt c.in_ok-ty.ensures.spelt;
+          binders_spelt_more _ _ _ _ _ _ _ (one_more c.args.teles.now c.loop-tele.tele-index c.tele-item.result (omega arith) c.tele-item.is) c.in_ok-push.ensures.items (ap length c.as_slice-names.ensures)
+          (names_bound c.exp.new.place _ (words_of c.args.self.now.names.bytes.now c.tele-item.result.names) binding.Variable (c.in_ok-bind_all.ensures ∙ ap (λ ns. all_bound_to c.exp.new.place (words_of c.args.self.now.names.bytes.now ns) binding.Variable) c.as_slice-names.ensures)
+          c.in_ok-ty.ensures.resolves.keeps.names) c.loop-tele.invariant.spelt c.in_ok-ty.ensures.spelt;
     }
 
 pub block-loop-def-init : goal.block-loop-def-init
@@ -290,8 +300,9 @@ pub block-loop-def-preserved : goal.block-loop-def-preserved
 block-loop-def-preserved t c =
     let i = c.loop-def.invariant in
     let more = one_more c.args.defs.now c.loop-def.def-index c.def-item.result (omega arith) c.def-item.is in
+    let bound = defined_names c.in_ok-define.ensures c.in_ok-code.ensures.defines.keeps.names in
     let new = block_more c.args.self.now.names.bytes.now _ _ _ _ _ _ more c.in_ok-push.ensures.items c.next-first.ensures i.opens i.seen c.in_ok-code.ensures.defines c.in_ok-define.ensures in
-    record { opens = new.0; spelt = defs_spelt_more _ _ _ _ _ _ more c.in_ok-push.ensures.items i.spelt c.in_ok-code.ensures.spelt; seen = new.1; named = names_more _ _ _ _ _ _ more c.in_ok-push.ensures.items c.in_ok-code.ensures.named i.named }
+    record { opens = new.0; spelt = defs_spelt_more _ _ _ _ _ _ more c.in_ok-push.ensures.items c.in_ok-code.ensures.named bound i.spelt c.in_ok-code.ensures.spelt; seen = new.1; named = names_more _ _ _ _ _ _ more c.in_ok-push.ensures.items c.in_ok-code.ensures.named i.named }
 
 pub def-returns-clause-defines : goal.def-returns-clause-defines
 def-returns-clause-defines t c =
@@ -584,112 +595,194 @@ natrec-returns-clause-resolves t c =
 
 pub let_in-returns-clause-spelt : goal.let_in-returns-clause-spelt
 let_in-returns-clause-spelt t c =
-    made _ _ c.let_in.result c.let_in.ensures.shaped (let_tree c.in-Let.span c.in-Let.defs c.in-Let.body c.in-Let.is c.as_slice.ensures c.deref.ensures)
-    (_, _, refl, c.in_ok-locals.ensures.spelt.become, c.in_ok-body.ensures.spelt.becomes)
+    made _ _ _ _ c.let_in.result c.let_in.ensures.shaped (let_tree c.in-Let.span c.in-Let.defs c.in-Let.body c.in-Let.is c.as_slice.ensures c.deref.ensures)
+    (_, _, refl, c.in_ok-locals.ensures.spelt.become, (term_among c.in_ok-locals.ensures.spelt.leaves c.in_ok-body.ensures.spelt).becomes)
 
 pub lambda-returns-clause-spelt : goal.lambda-returns-clause-spelt
 lambda-returns-clause-spelt t c =
-    made _ _ c.lambda.result c.lambda.ensures.shaped (lambda_tree c.in-Lambda.span c.in-Lambda.teles c.in-Lambda.body c.in-Lambda.is c.as_slice.ensures c.deref.ensures)
-    (_, _, refl, c.in_ok-binders.ensures.spelt.become, c.in_ok-body.ensures.spelt.becomes)
+    made _ _ _ _ c.lambda.result c.lambda.ensures.shaped (lambda_tree c.in-Lambda.span c.in-Lambda.teles c.in-Lambda.body c.in-Lambda.is c.as_slice.ensures c.deref.ensures)
+    (_, _, refl, c.in_ok-binders.ensures.spelt.become, (term_among c.in_ok-binders.ensures.spelt.leaves c.in_ok-body.ensures.spelt).becomes)
 
 pub pi-returns-clause-spelt : goal.pi-returns-clause-spelt
 pi-returns-clause-spelt t c =
-    made _ _ c.pi.result c.pi.ensures.shaped (pi_tree c.in-Pi.span c.in-Pi.teles c.in-Pi.body c.in-Pi.is c.as_slice.ensures c.deref.ensures)
-    (_, _, refl, c.in_ok-binders.ensures.spelt.become, c.in_ok-body.ensures.spelt.becomes)
+    made _ _ _ _ c.pi.result c.pi.ensures.shaped (pi_tree c.in-Pi.span c.in-Pi.teles c.in-Pi.body c.in-Pi.is c.as_slice.ensures c.deref.ensures)
+    (_, _, refl, c.in_ok-binders.ensures.spelt.become, (term_among c.in_ok-binders.ensures.spelt.leaves c.in_ok-body.ensures.spelt).becomes)
 
 pub sigma-returns-clause-spelt : goal.sigma-returns-clause-spelt
 sigma-returns-clause-spelt t c =
-    made _ _ c.sigma.result c.sigma.ensures.shaped (sigma_tree c.in-Sigma.span c.in-Sigma.teles c.in-Sigma.body c.in-Sigma.is c.as_slice.ensures c.deref.ensures)
-    (_, _, refl, c.in_ok-binders.ensures.spelt.become, c.in_ok-body.ensures.spelt.becomes)
+    made _ _ _ _ c.sigma.result c.sigma.ensures.shaped (sigma_tree c.in-Sigma.span c.in-Sigma.teles c.in-Sigma.body c.in-Sigma.is c.as_slice.ensures c.deref.ensures)
+    (_, _, refl, c.in_ok-binders.ensures.spelt.become, (term_among c.in_ok-binders.ensures.spelt.leaves c.in_ok-body.ensures.spelt).becomes)
 
 pub path_lambda-returns-clause-spelt : goal.path_lambda-returns-clause-spelt
 path_lambda-returns-clause-spelt t c =
-    made _ _ c.path_lambda.result c.path_lambda.ensures.shaped (path_lambda_tree c.in-PathLambda.span c.in-PathLambda.names c.in-PathLambda.body c.in-PathLambda.is c.as_slice-names.ensures c.deref.ensures)
-    (under_names c.in-PathLambda.span c.as_slice-names.result.now _ _ c.in_ok-body.ensures.spelt.becomes)
+    made _ _ _ _ c.path_lambda.result c.path_lambda.ensures.shaped (path_lambda_tree c.in-PathLambda.span c.in-PathLambda.names c.in-PathLambda.body c.in-PathLambda.is c.as_slice-names.ensures c.deref.ensures)
+    (under_names c.args.self.now.names.bytes.now c.args.place.now.names c.in-PathLambda.span c.as_slice-names.result.now
+    (names_bound c.args.place.now _ (words_of c.args.self.now.names.bytes.now c.as_slice-names.result.now) binding.Interval c.in_ok-bind_all.ensures refl) c.in_ok-body.ensures.spelt)
 
 pub arrow-returns-clause-spelt : goal.arrow-returns-clause-spelt
 arrow-returns-clause-spelt t c =
-    made _ _ c.arrow.result c.arrow.ensures.shaped (arrow_tree c.in-Arrow.span c.in-Arrow.from c.in-Arrow.to c.in-Arrow.is c.deref.ensures c.deref-2.ensures)
-    (_, _, refl, c.in_ok-from.ensures.spelt.becomes, c.in_ok-to.ensures.spelt.becomes)
+    made _ _ _ _ c.arrow.result c.arrow.ensures.shaped (arrow_tree c.in-Arrow.span c.in-Arrow.from c.in-Arrow.to c.in-Arrow.is c.deref.ensures c.deref-2.ensures)
+    (_, _, refl, c.in_ok-from.ensures.spelt.becomes, (term_among (names_bound c.exp.new.place _ (codes "_" ∷ []) binding.Variable c.in_ok-bind.ensures.ok c.in_ok-from.ensures.resolves.keeps.names) c.in_ok-to.ensures.spelt).becomes)
 
 pub path_type-returns-clause-spelt : goal.path_type-returns-clause-spelt
 path_type-returns-clause-spelt t c =
-    made _ _ c.path_type.result c.path_type.ensures.shaped (path_type_tree c.in-PathP.span c.in-PathP.line c.in-PathP.left c.in-PathP.right c.in-PathP.is c.deref-2.ensures c.deref-3.ensures c.deref-4.ensures)
-    (_, _, _, refl, line_at c.span_of.ensures c.deref.ensures c.deref-2.ensures c.in_ok-line.ensures.spelt, c.in_ok-left.ensures.spelt.becomes, c.in_ok-right.ensures.spelt.becomes)
+    made _ _ _ _ c.path_type.result c.path_type.ensures.shaped (path_type_tree c.in-PathP.span c.in-PathP.line c.in-PathP.left c.in-PathP.right c.in-PathP.is c.deref-2.ensures c.deref-3.ensures c.deref-4.ensures) (
+      _,
+      _,
+      _,
+      refl,
+      line_at c.span_of.ensures c.deref.ensures c.deref-2.ensures c.in_ok-line.ensures.spelt,
+      (term_among c.in_ok-line.ensures.resolves.keeps.names c.in_ok-left.ensures.spelt).becomes,
+      (term_among (c.in_ok-left.ensures.resolves.keeps.names ∙ c.in_ok-line.ensures.resolves.keeps.names) c.in_ok-right.ensures.spelt).becomes,
+    )
 
 pub comp-returns-clause-spelt : goal.comp-returns-clause-spelt
 comp-returns-clause-spelt t c =
-    made _ _ c.comp.result c.comp.ensures.shaped (comp_tree c.in-Comp.span c.in-Comp.line c.in-Comp.base c.in-Comp.sides c.in-Comp.is c.deref-2.ensures c.deref-3.ensures c.as_slice.ensures)
-    (_, _, _, refl, line_at c.span_of.ensures c.deref.ensures c.deref-2.ensures c.in_ok-line.ensures.spelt, c.in_ok-base.ensures.spelt.becomes, c.in_ok-sides.ensures.spelt.become)
+    made _ _ _ _ c.comp.result c.comp.ensures.shaped (comp_tree c.in-Comp.span c.in-Comp.line c.in-Comp.base c.in-Comp.sides c.in-Comp.is c.deref-2.ensures c.deref-3.ensures c.as_slice.ensures) (
+      _,
+      _,
+      _,
+      refl,
+      line_at c.span_of.ensures c.deref.ensures c.deref-2.ensures c.in_ok-line.ensures.spelt,
+      (term_among c.in_ok-line.ensures.resolves.keeps.names c.in_ok-base.ensures.spelt).becomes,
+      (line_sides_among (c.in_ok-base.ensures.resolves.keeps.names ∙ c.in_ok-line.ensures.resolves.keeps.names) c.in_ok-sides.ensures.spelt).become,
+    )
 
 pub fill-returns-clause-spelt : goal.fill-returns-clause-spelt
 fill-returns-clause-spelt t c =
-    made _ _ c.fill.result c.fill.ensures.shaped (fill_tree c.in-Fill.span c.in-Fill.line c.in-Fill.base c.in-Fill.sides c.in-Fill.is c.deref-2.ensures c.deref-3.ensures c.as_slice.ensures)
-    (_, _, _, refl, line_at c.span_of.ensures c.deref.ensures c.deref-2.ensures c.in_ok-line.ensures.spelt, c.in_ok-base.ensures.spelt.becomes, c.in_ok-sides.ensures.spelt.become)
+    made _ _ _ _ c.fill.result c.fill.ensures.shaped (fill_tree c.in-Fill.span c.in-Fill.line c.in-Fill.base c.in-Fill.sides c.in-Fill.is c.deref-2.ensures c.deref-3.ensures c.as_slice.ensures) (
+      _,
+      _,
+      _,
+      refl,
+      line_at c.span_of.ensures c.deref.ensures c.deref-2.ensures c.in_ok-line.ensures.spelt,
+      (term_among c.in_ok-line.ensures.resolves.keeps.names c.in_ok-base.ensures.spelt).becomes,
+      (line_sides_among (c.in_ok-base.ensures.resolves.keeps.names ∙ c.in_ok-line.ensures.resolves.keeps.names) c.in_ok-sides.ensures.spelt).become,
+    )
 
 pub transport-returns-clause-spelt : goal.transport-returns-clause-spelt
 transport-returns-clause-spelt t c =
-    made _ _ c.transport.result c.transport.ensures.shaped (transport_tree c.in-Transport.span c.in-Transport.line c.in-Transport.base c.in-Transport.is c.deref-2.ensures c.deref-3.ensures)
-    (_, _, refl, line_at c.span_of.ensures c.deref.ensures c.deref-2.ensures c.in_ok-line.ensures.spelt, c.in_ok-base.ensures.spelt.becomes)
+    made _ _ _ _ c.transport.result c.transport.ensures.shaped (transport_tree c.in-Transport.span c.in-Transport.line c.in-Transport.base c.in-Transport.is c.deref-2.ensures c.deref-3.ensures)
+    (_, _, refl, line_at c.span_of.ensures c.deref.ensures c.deref-2.ensures c.in_ok-line.ensures.spelt, (term_among c.in_ok-line.ensures.resolves.keeps.names c.in_ok-base.ensures.spelt).becomes)
 
 pub glue_type-returns-clause-spelt : goal.glue_type-returns-clause-spelt
 glue_type-returns-clause-spelt t c =
-    made _ _ c.glue_type.result c.glue_type.ensures.shaped (glue_type_tree c.in-GlueType.span c.in-GlueType.base c.in-GlueType.sides c.in-GlueType.is c.deref.ensures c.as_slice.ensures)
-    (_, _, refl, c.in_ok-base.ensures.spelt.becomes, c.in_ok-sides.ensures.spelt.become)
+    made _ _ _ _ c.glue_type.result c.glue_type.ensures.shaped (glue_type_tree c.in-GlueType.span c.in-GlueType.base c.in-GlueType.sides c.in-GlueType.is c.deref.ensures c.as_slice.ensures)
+    (_, _, refl, c.in_ok-base.ensures.spelt.becomes, (pair_sides_among c.in_ok-base.ensures.resolves.keeps.names c.in_ok-sides.ensures.spelt).become)
 
 pub glue_term-returns-clause-spelt : goal.glue_term-returns-clause-spelt
 glue_term-returns-clause-spelt t c =
-    made _ _ c.glue_term.result c.glue_term.ensures.shaped (glue_term_tree c.in-GlueTerm.span c.in-GlueTerm.base c.in-GlueTerm.sides c.in-GlueTerm.is c.deref.ensures c.as_slice.ensures)
-    (_, _, refl, c.in_ok-base.ensures.spelt.becomes, c.in_ok-sides.ensures.spelt.become)
+    made _ _ _ _ c.glue_term.result c.glue_term.ensures.shaped (glue_term_tree c.in-GlueTerm.span c.in-GlueTerm.base c.in-GlueTerm.sides c.in-GlueTerm.is c.deref.ensures c.as_slice.ensures)
+    (_, _, refl, c.in_ok-base.ensures.spelt.becomes, (sides_among c.in_ok-base.ensures.resolves.keeps.names c.in_ok-sides.ensures.spelt).become)
 
 pub unglue-returns-clause-spelt : goal.unglue-returns-clause-spelt
 unglue-returns-clause-spelt t c =
-    made _ _ c.unglue.result c.unglue.ensures.shaped (unglue_tree c.in-Unglue.span c.in-Unglue.base c.in-Unglue.sides c.in-Unglue.is c.deref.ensures c.as_slice.ensures)
-    (_, _, refl, c.in_ok-base.ensures.spelt.becomes, c.in_ok-sides.ensures.spelt.become)
+    made _ _ _ _ c.unglue.result c.unglue.ensures.shaped (unglue_tree c.in-Unglue.span c.in-Unglue.base c.in-Unglue.sides c.in-Unglue.is c.deref.ensures c.as_slice.ensures)
+    (_, _, refl, c.in_ok-base.ensures.spelt.becomes, (pair_sides_among c.in_ok-base.ensures.resolves.keeps.names c.in_ok-sides.ensures.spelt).become)
 
 pub applied-returns-in-Name-clause-spelt : goal.applied-returns-in-Name-clause-spelt
 applied-returns-in-Name-clause-spelt t c =
-    named_term c.in-Apply.span c.in-Apply.head c.in-Name.name c.in-Apply.elements c.named.result c.in-Apply.is c.deref.ensures c.in-Name.is c.as_slice.ensures c.named.ensures.spelt
+    named_term _ _ c.in-Apply.span c.in-Apply.head c.in-Name.name c.in-Apply.elements c.named.result c.in-Apply.is c.deref.ensures c.in-Name.is c.as_slice.ensures c.named.ensures.spelt
 
 pub applied-returns-in_ok-elements-in_default-deref-clause-spelt : goal.applied-returns-in_ok-elements-in_default-deref-clause-spelt
 applied-returns-in_ok-elements-in_default-deref-clause-spelt t c =
-    made _ _ c.apply.result c.apply.ensures.shaped (apply_tree c.in-Apply.span c.in-Apply.head c.in-Apply.elements c.in-Apply.is c.deref-in_default-deref.ensures c.as_slice-in_default-deref.ensures)
-    (_, _, refl, inl (c.in_ok-head-in_default-deref.ensures.spelt.becomes, c.in_ok-elements-in_default-deref.ensures.spelt.become))
+    made _ _ _ _ c.apply.result c.apply.ensures.shaped (apply_tree c.in-Apply.span c.in-Apply.head c.in-Apply.elements c.in-Apply.is c.deref-in_default-deref.ensures c.as_slice-in_default-deref.ensures)
+    (applied_term c.in-Apply.span (λ n e. c.in_default-deref.not-Name n (c.deref.ensures ∙ sym c.deref-in_default-deref.ensures ∙ e)) c.in_ok-head-in_default-deref.ensures.spelt
+    (elements_among c.in_ok-head-in_default-deref.ensures.resolves.keeps.names c.in_ok-elements-in_default-deref.ensures.spelt))
 
 pub project-returns-clause-spelt : goal.project-returns-clause-spelt
 project-returns-clause-spelt t c =
-    made _ _ c.projected.result c.projected.ensures.shaped (project_tree c.in-Project.span c.in-Project.pair c.in-Project.projections c.in-Project.is c.deref.ensures c.as_slice.ensures)
+    made _ _ _ _ c.projected.result c.projected.ensures.shaped (project_tree c.in-Project.span c.in-Project.pair c.in-Project.projections c.in-Project.is c.deref.ensures c.as_slice.ensures)
     (_, refl, c.in_ok-pair.ensures.spelt.becomes)
 
 pub exp-returns-in-Universe-clause-spelt : goal.exp-returns-in-Universe-clause-spelt
 exp-returns-in-Universe-clause-spelt t c =
-    universe_term c.in-Universe.span _ c.in-Universe.is refl
+    universe_term _ _ c.in-Universe.span _ c.in-Universe.is refl
 
 pub exp-returns-in-Name-clause-spelt : goal.exp-returns-in-Name-clause-spelt
 exp-returns-in-Name-clause-spelt t c =
-    name_term c.in-Name.span c.name.result c.in-Name.is c.name.ensures.shaped
+    name_term _ _ c.in-Name.span c.name.result c.in-Name.is c.name.ensures.shaped
 
 pub exp-returns-in-Brackets-clause-spelt : goal.exp-returns-in-Brackets-clause-spelt
 exp-returns-in-Brackets-clause-spelt t c =
-    brackets_term c.in-Brackets.span c.in-Brackets.components c.brackets.result c.in-Brackets.is c.as_slice.ensures c.brackets.ensures.spelt
+    brackets_term _ _ c.in-Brackets.span c.in-Brackets.components c.brackets.result c.in-Brackets.is c.as_slice.ensures c.brackets.ensures.spelt
 
 pub brackets-returns-clause-spelt : goal.brackets-returns-clause-spelt
 brackets-returns-clause-spelt t c =
-    tuple_spelt c.args.span c.args.components.now _ _ c.tuple.ensures.shaped c.in_ok-exps.ensures.spelt
+    tuple_spelt _ _ c.args.span c.args.components.now _ _ c.tuple.ensures.shaped c.in_ok-exps.ensures.spelt
 
 pub plain-returns-clause-spelt : goal.plain-returns-clause-spelt
 plain-returns-clause-spelt t c =
-    made_applied _ c.apply.result c.apply.ensures.shaped (_, _, refl, inl (c.in_ok-head.ensures.shaped, c.in_ok-elements.ensures.spelt.become))
+    plain_made _ _ c.args.span c.args.name c.args.elements.now c.in_ok-head.head c.apply.result c.apply.ensures.shaped c.in_ok-head.ensures.shaped (elements_among c.in_ok-head.ensures.resolves.keeps.names c.in_ok-elements.ensures.spelt)
+
+pub named-returns-in-BuiltIn-Nat-clause-spelt : goal.named-returns-in-BuiltIn-Nat-clause-spelt
+named-returns-in-BuiltIn-Nat-clause-spelt t c =
+    other_applied _ _ _ _ _ c.plain.result (c.find.ensures ∙ ap (find c.args.place.now.names) c.spelling.ensures) (λ e. let i = c.in-BuiltIn-Nat.is in let j = c.in-BuiltIn-Nat.field-0-is in cc) (λ e. let i = c.in-BuiltIn-Nat.is in let j = c.in-BuiltIn-Nat.field-0-is in cc) c.plain.ensures.spelt
+
+pub named-returns-in-BuiltIn-Zero-clause-spelt : goal.named-returns-in-BuiltIn-Zero-clause-spelt
+named-returns-in-BuiltIn-Zero-clause-spelt t c =
+    other_applied _ _ _ _ _ c.plain-in-BuiltIn-Zero.result (c.find.ensures ∙ ap (find c.args.place.now.names) c.spelling.ensures) (λ e. let i = c.in-BuiltIn-Zero.is in let j = c.in-BuiltIn-Zero.field-0-is in cc) (λ e. let i = c.in-BuiltIn-Zero.is in let j = c.in-BuiltIn-Zero.field-0-is in cc) c.plain-in-BuiltIn-Zero.ensures.spelt
+
+pub named-returns-in-Variable-clause-spelt : goal.named-returns-in-Variable-clause-spelt
+named-returns-in-Variable-clause-spelt t c =
+    other_applied _ _ _ _ _ c.plain-in-Variable.result (c.find.ensures ∙ ap (find c.args.place.now.names) c.spelling.ensures) (λ e. let i = c.in-Variable.is in cc) (λ e. let i = c.in-Variable.is in cc) c.plain-in-Variable.ensures.spelt
+
+pub named-returns-in-Interval-clause-spelt : goal.named-returns-in-Interval-clause-spelt
+named-returns-in-Interval-clause-spelt t c =
+    other_applied _ _ _ _ _ c.plain-in-Interval.result (c.find.ensures ∙ ap (find c.args.place.now.names) c.spelling.ensures) (λ e. let i = c.in-Interval.is in cc) (λ e. let i = c.in-Interval.is in cc) c.plain-in-Interval.ensures.spelt
+
+pub named-returns-in-Definition-clause-spelt : goal.named-returns-in-Definition-clause-spelt
+named-returns-in-Definition-clause-spelt t c =
+    other_applied _ _ _ _ _ c.plain-in-Definition.result (c.find.ensures ∙ ap (find c.args.place.now.names) c.spelling.ensures) (λ e. let i = c.in-Definition.is in cc) (λ e. let i = c.in-Definition.is in cc) c.plain-in-Definition.ensures.spelt
+
+pub named-returns-in-Nothing-clause-spelt : goal.named-returns-in-Nothing-clause-spelt
+named-returns-in-Nothing-clause-spelt t c =
+    other_applied _ _ _ _ _ c.plain-in-Nothing.result (c.find.ensures ∙ ap (find c.args.place.now.names) c.spelling.ensures) (λ e. let i = c.in-Nothing.is in cc) (λ e. let i = c.in-Nothing.is in cc) c.plain-in-Nothing.ensures.spelt
+
+pub suc-returns-in_default-clause-spelt : goal.suc-returns-in_default-clause-spelt
+suc-returns-in_default-clause-spelt t c =
+    few_applied _ _ _ _ _ c.plain.result (sym c.requires) (λ e. leading_none c.args.elements.now c.in_default.ensures) (λ e. absurd (let k = e in cc)) c.plain.ensures.spelt
+
+pub natrec-returns-in_default-clause-spelt : goal.natrec-returns-in_default-clause-spelt
+natrec-returns-in_default-clause-spelt t c =
+    let none = leading_none c.args.elements.now c.in_default.ensures in
+    few_applied _ _ _ _ _ c.plain.result (sym c.requires) (λ e. absurd (let k = e in cc)) (λ e. omega (arith, none)) c.plain.ensures.spelt
+
+pub natrec-returns-in_default-first_argument-clause-spelt : goal.natrec-returns-in_default-first_argument-clause-spelt
+natrec-returns-in_default-first_argument-clause-spelt t c =
+    let first = leading_more c.args.elements.now c.in-Some.motive.now c.in-Some.rest.now c.in-Some.ensures in
+    let none = leading_none c.in-Some.rest.now c.in_default-first_argument.ensures in
+    few_applied _ _ _ _ _ c.plain-in_default-first_argument.result (sym c.requires) (λ e. absurd (let k = e in cc)) (λ e. omega (arith, first, none)) c.plain-in_default-first_argument.ensures.spelt
+
+pub natrec-returns-in_default-first_argument-2-clause-spelt : goal.natrec-returns-in_default-first_argument-2-clause-spelt
+natrec-returns-in_default-first_argument-2-clause-spelt t c =
+    let first = leading_more c.args.elements.now c.in-Some.motive.now c.in-Some.rest.now c.in-Some.ensures in
+    let second = leading_more c.in-Some.rest.now c.in-Some-first_argument.base.now c.in-Some-first_argument.rest.now c.in-Some-first_argument.ensures in
+    let none = leading_none c.in-Some-first_argument.rest.now c.in_default-first_argument-2.ensures in
+    few_applied _ _ _ _ _ c.plain-in_default-first_argument-2.result (sym c.requires) (λ e. absurd (let k = e in cc)) (λ e. omega (arith, first, second, none)) c.plain-in_default-first_argument-2.ensures.spelt
+
+pub natrec-returns-in_default-first_argument-3-clause-spelt : goal.natrec-returns-in_default-first_argument-3-clause-spelt
+natrec-returns-in_default-first_argument-3-clause-spelt t c =
+    let first = leading_more c.args.elements.now c.in-Some.motive.now c.in-Some.rest.now c.in-Some.ensures in
+    let second = leading_more c.in-Some.rest.now c.in-Some-first_argument.base.now c.in-Some-first_argument.rest.now c.in-Some-first_argument.ensures in
+    let third = leading_more c.in-Some-first_argument.rest.now c.in-Some-first_argument-2.step.now c.in-Some-first_argument-2.rest.now c.in-Some-first_argument-2.ensures in
+    let none = leading_none c.in-Some-first_argument-2.rest.now c.in_default-first_argument-3.ensures in
+    few_applied _ _ _ _ _ c.plain-in_default-first_argument-3.result (sym c.requires) (λ e. absurd (let k = e in cc)) (λ e. omega (arith, first, second, third, none)) c.plain-in_default-first_argument-3.ensures.spelt
 
 pub suc-returns-clause-spelt : goal.suc-returns-clause-spelt
 suc-returns-clause-spelt t c =
-    suc_applied _ _ c.apply.result c.apply.ensures.shaped c.in_ok-head.ensures.shaped c.in-Some.ensures c.in_ok-argument.ensures.spelt c.in_ok-elements.ensures.spelt
+    suc_applied _ _ _ _ c.apply.result c.requires c.apply.ensures.shaped c.in_ok-head.ensures.shaped c.in-Some.ensures c.in_ok-argument.ensures.spelt
+    (elements_among c.in_ok-argument.ensures.resolves.keeps.names c.in_ok-elements.ensures.spelt)
 
 pub natrec-returns-clause-spelt : goal.natrec-returns-clause-spelt
 natrec-returns-clause-spelt t c =
     let four = four_arguments c.in-Some.ensures c.in-Some-first_argument.ensures c.in-Some-first_argument-2.ensures c.in-Some-first_argument-3.ensures in
-    natrec_applied _ _ c.apply.result c.apply.ensures.shaped c.in_ok-head.ensures.shaped four c.span_of.ensures
-    c.in_ok-motive.ensures.spelt c.in_ok-base.ensures.spelt c.in_ok-step.ensures.spelt c.in_ok-argument.ensures.spelt c.in_ok-elements.ensures.spelt
+    let first = c.in_ok-motive.ensures.resolves.keeps.names in
+    let second = c.in_ok-base.ensures.resolves.keeps.names ∙ first in
+    let third = c.in_ok-step.ensures.resolves.keeps.names ∙ second in
+    let last = c.in_ok-argument.ensures.resolves.keeps.names ∙ third in
+    natrec_applied _ _ _ _ c.apply.result c.requires c.apply.ensures.shaped c.in_ok-head.ensures.shaped four c.span_of.ensures c.in_ok-motive.ensures.spelt
+    (term_among first c.in_ok-base.ensures.spelt) (term_among second c.in_ok-step.ensures.spelt) (term_among third c.in_ok-argument.ensures.spelt) (elements_among last c.in_ok-elements.ensures.spelt)
 
 pub element-returns-in_ok-exp-in-Argument-clause-spelt : goal.element-returns-in_ok-exp-in-Argument-clause-spelt
 element-returns-in_ok-exp-in-Argument-clause-spelt t c =
@@ -702,7 +795,7 @@ element-returns-in_ok-formula-in-At-clause-spelt t c =
 pub line-returns-in-len1-clause-spelt : goal.line-returns-in-len1-clause-spelt
 line-returns-in-len1-clause-spelt t c =
     let one = only_one c.as_slice.result.now c.only-item.result (omega (arith, c.in-len1.len_at_least, c.in-len1.len_below)) c.only-item.is in
-    line_seen _ _ _ c.line.result (brackets_seen c.in-Brackets.span c.in-Brackets.components c.in-Brackets.is c.as_slice.ensures one) c.line.ensures.spelt
+    line_seen _ _ _ _ _ c.line.result (brackets_seen c.args.self.now.names.bytes.now c.in-Brackets.span c.in-Brackets.components c.in-Brackets.is c.as_slice.ensures one) c.line.ensures.spelt
 
 pub line-returns-in_ok-exp-in-empty-clause-spelt : goal.line-returns-in_ok-exp-in-empty-clause-spelt
 line-returns-in_ok-exp-in-empty-clause-spelt t c =
@@ -715,7 +808,7 @@ line-returns-in_ok-exp-in-len2-up-clause-spelt t c =
 pub line-returns-in-empty-as_slice-clause-spelt : goal.line-returns-in-empty-as_slice-clause-spelt
 line-returns-in-empty-as_slice-clause-spelt t c =
     let empty = none c.as_slice-in-PathLambda.result.now (omega (arith, c.in-empty-as_slice.len_below)) in
-    line_seen _ _ _ c.line-in-empty-as_slice.result (path_seen c.in-PathLambda.span c.in-PathLambda.names c.in-PathLambda.body c.in-PathLambda.is c.as_slice-in-PathLambda.ensures empty c.deref.ensures)
+    line_seen _ _ _ _ _ c.line-in-empty-as_slice.result (path_seen c.args.self.now.names.bytes.now c.in-PathLambda.span c.in-PathLambda.names c.in-PathLambda.body c.in-PathLambda.is c.as_slice-in-PathLambda.ensures empty c.deref.ensures)
     c.line-in-empty-as_slice.ensures.spelt
 
 pub line-returns-in_ok-exp-in_default-clause-spelt : goal.line-returns-in_ok-exp-in_default-clause-spelt
@@ -725,7 +818,7 @@ line-returns-in_ok-exp-in_default-clause-spelt t c =
 pub motive-returns-in-len1-clause-spelt : goal.motive-returns-in-len1-clause-spelt
 motive-returns-in-len1-clause-spelt t c =
     let one = only_one c.as_slice.result.now c.only-item.result (omega (arith, c.in-len1.len_at_least, c.in-len1.len_below)) c.only-item.is in
-    motive_seen _ _ _ c.motive.result (brackets_seen c.in-Brackets.span c.in-Brackets.components c.in-Brackets.is c.as_slice.ensures one) c.motive.ensures.spelt
+    motive_seen _ _ _ _ _ c.motive.result (brackets_seen c.args.self.now.names.bytes.now c.in-Brackets.span c.in-Brackets.components c.in-Brackets.is c.as_slice.ensures one) c.motive.ensures.spelt
 
 pub motive-returns-in_ok-exp-in-empty-clause-spelt : goal.motive-returns-in_ok-exp-in-empty-clause-spelt
 motive-returns-in_ok-exp-in-empty-clause-spelt t c =
@@ -738,19 +831,21 @@ motive-returns-in_ok-exp-in-len2-up-clause-spelt t c =
 pub motive-returns-in-empty-as_slice-clause-spelt : goal.motive-returns-in-empty-as_slice-clause-spelt
 motive-returns-in-empty-as_slice-clause-spelt t c =
     let empty = none c.as_slice-in-PathLambda.result.now (omega (arith, c.in-empty-as_slice.len_below)) in
-    motive_seen _ _ _ c.motive-in-empty-as_slice.result (path_seen c.in-PathLambda.span c.in-PathLambda.names c.in-PathLambda.body c.in-PathLambda.is c.as_slice-in-PathLambda.ensures empty c.deref.ensures)
+    motive_seen _ _ _ _ _ c.motive-in-empty-as_slice.result (path_seen c.args.self.now.names.bytes.now c.in-PathLambda.span c.in-PathLambda.names c.in-PathLambda.body c.in-PathLambda.is c.as_slice-in-PathLambda.ensures empty c.deref.ensures)
     c.motive-in-empty-as_slice.ensures.spelt
 
 pub motive-returns-in_ok-exp-in_default-clause-spelt : goal.motive-returns-in_ok-exp-in_default-clause-spelt
 motive-returns-in_ok-exp-in_default-clause-spelt t c =
-    record { becomes = motive_wrapped c.args.span c.in_default.not-Brackets c.in_default.not-PathLambda c.in_ok-exp-in_default.ensures.spelt }
+    record { becomes = motive_wrapped c.args.span c.in_default.not-Brackets c.in_default.not-PathLambda c.in_ok-exp-in_default.ensures.spelt c.in_default.not-Lambda }
 
 pub line-returns-in_ok-body-in-len1-up-2-clause-spelt : goal.line-returns-in_ok-body-in-len1-up-2-clause-spelt
 line-returns-in_ok-body-in-len1-up-2-clause-spelt t c =
     let names = c.as_slice-in-PathLambda.result.now in
     let x : Span = get_or names 0 no_span in
     written_line_spelt c.args.span c.in-PathLambda.span x _ (rest_after 1 names) c.in-PathLambda.body c.in_ok-body-in-len1-up.body c.in_ok-body-in-len1-up-2.body c.in-PathLambda.is
-    (sym c.as_slice-in-PathLambda.ensures ∙ front_any names no_span c.in-len1-up.len_at_least) c.deref-in-len1-up.ensures c.in_ok-body-in-len1-up.ensures.spelt c.in_ok-body-in-len1-up-2.ensures.shaped
+    (sym c.as_slice-in-PathLambda.ensures ∙ front_any names no_span c.in-len1-up.len_at_least) c.deref-in-len1-up.ensures
+    (first_bound c.args.place.now _ _ (word c.args.self.now.names.bytes.now x) (words_of c.args.self.now.names.bytes.now (rest_after 1 names)) binding.Interval (c.in_ok-bind-in-len1-up.ensures.ok ∙ ap (λ w. bound_to c.args.place.now w binding.Interval) c.spelling.ensures)
+    c.in_ok-bind_all-in-len1-up.ensures) c.in_ok-body-in-len1-up.ensures.spelt c.in_ok-body-in-len1-up-2.ensures.shaped
 
 pub motive-returns-in_ok-exp-in-len1-up-clause-spelt : goal.motive-returns-in_ok-exp-in-len1-up-clause-spelt
 motive-returns-in_ok-exp-in-len1-up-clause-spelt t c =
@@ -760,16 +855,22 @@ motive-returns-in_ok-exp-in-len1-up-clause-spelt t c =
 pub motive-returns-in-empty-as_slice-2-clause-spelt : goal.motive-returns-in-empty-as_slice-2-clause-spelt
 motive-returns-in-empty-as_slice-2-clause-spelt t c =
     let empty = none c.as_slice-in-Lambda.result.now (omega (arith, c.in-empty-as_slice-2.len_below)) in
-    bare_motive_spelt _ c.in-Lambda.span c.in-Lambda.teles c.in-Lambda.body c.motive-in-empty-as_slice-2.result c.in-Lambda.is c.as_slice-in-Lambda.ensures empty c.deref-in-empty-as_slice-2.ensures
+    bare_motive_spelt _ _ _ c.in-Lambda.span c.in-Lambda.teles c.in-Lambda.body c.motive-in-empty-as_slice-2.result c.in-Lambda.is c.as_slice-in-Lambda.ensures empty c.deref-in-empty-as_slice-2.ensures
     c.motive-in-empty-as_slice-2.ensures.spelt
 
 pub motive-returns-in_ok-exp-in-None-default-clause-spelt : goal.motive-returns-in_ok-exp-in-None-default-clause-spelt
 motive-returns-in_ok-exp-in-None-default-clause-spelt t c =
-    lambda_motive_spelt c.args.span _ c.in_ok-exp-in-None-default.ensures.spelt c.in-Lambda.span c.in-Lambda.teles c.in-Lambda.body c.in-Lambda.is
+    let xs = c.as_slice-in-Lambda.result.now in
+    let x = c.first-item.result in
+    other_motive_spelt c.args.span _ c.in_ok-exp-in-None-default.ensures.spelt c.in-Lambda.span c.in-Lambda.teles c.in-Lambda.body x (rest_after 1 xs) c.in-Lambda.is c.as_slice-in-Lambda.ensures
+    (front_one xs x c.in-len1-up-as_slice.len_at_least c.first-item.is) (sym c.built_in_nat-nat.ensures.named ∙ c.in-None-default.is-0)
 
 pub motive-returns-in_ok-exp-in-Some-empty-clause-spelt : goal.motive-returns-in_ok-exp-in-Some-empty-clause-spelt
 motive-returns-in_ok-exp-in-Some-empty-clause-spelt t c =
-    lambda_motive_spelt c.args.span _ c.in_ok-exp-in-Some-empty.ensures.spelt c.in-Lambda.span c.in-Lambda.teles c.in-Lambda.body c.in-Lambda.is
+    let xs = c.as_slice-in-Lambda.result.now in
+    let x = c.first-item.result in
+    nameless_motive_spelt c.args.span _ c.in_ok-exp-in-Some-empty.ensures.spelt c.in-Lambda.span c.in-Lambda.teles c.in-Lambda.body x (rest_after 1 xs) c.in-Lambda.is c.as_slice-in-Lambda.ensures
+    (front_one xs x c.in-len1-up-as_slice.len_at_least c.first-item.is) (sym c.as_slice-in-len1-up-as_slice.ensures ∙ none c.as_slice-in-len1-up-as_slice.result.now (omega (arith, c.in-Some-empty.len_below)))
 
 pub motive-returns-in_ok-body-in-Some-len1-up-3-clause-spelt : goal.motive-returns-in_ok-body-in-Some-len1-up-3-clause-spelt
 motive-returns-in_ok-body-in-Some-len1-up-3-clause-spelt t c =
@@ -780,7 +881,9 @@ motive-returns-in_ok-body-in-Some-len1-up-3-clause-spelt t c =
     opened_motive_spelt c.args.span c.in-Lambda.span v c.in-Some-len1-up.nat (rest_after 1 names) x (rest_after 1 xs) c.in-Lambda.teles c.in-Lambda.body
     c.in_ok-body-in-Some-len1-up.body c.in_ok-body-in-Some-len1-up-2.body c.in_ok-body-in-Some-len1-up-3.body c.in-Lambda.is c.as_slice-in-Lambda.ensures
     (front_one xs x c.in-len1-up-as_slice.len_at_least c.first-item.is) (sym c.as_slice-in-len1-up-as_slice.ensures ∙ front_any names no_span c.in-Some-len1-up.len_at_least)
-    c.deref-in-Some-len1-up.ensures (c.built_in_nat-nat.ensures.named c.in-Some-len1-up.nat c.in-Some-len1-up.is-0) c.in_ok-binders-in-Some-len1-up.ensures.spelt
+    c.deref-in-Some-len1-up.ensures (sym c.built_in_nat-nat.ensures.named ∙ c.in-Some-len1-up.is-0)
+    (first_bound c.args.place.now _ _ (word c.args.self.now.names.bytes.now v) (words_of c.args.self.now.names.bytes.now (rest_after 1 names)) binding.Variable (c.in_ok-bind-in-Some-len1-up.ensures.ok ∙ ap (λ w. bound_to c.args.place.now w binding.Variable) c.spelling.ensures)
+    c.in_ok-bind_all-in-Some-len1-up.ensures) c.in_ok-binders-in-Some-len1-up.ensures.spelt
     c.in_ok-body-in-Some-len1-up.ensures.spelt c.in_ok-body-in-Some-len1-up-2.ensures.shaped c.in_ok-body-in-Some-len1-up-3.ensures.shaped
 
 pub no_pair-returns-clause-spelt : goal.no_pair-returns-clause-spelt
@@ -789,19 +892,19 @@ no_pair-returns-clause-spelt t c =
 
 pub pair-returns-in_default-clause-spelt : goal.pair-returns-in_default-clause-spelt
 pair-returns-in_default-clause-spelt t c =
-    pair_refused _ _ c.no_pair-in_default.result (λ C h. pair_wrapped c.args.span c.in_default.not-Brackets c.in_default.not-PathLambda h) c.no_pair-in_default.ensures.spelt
+    pair_refused _ _ _ _ c.no_pair-in_default.result (λ C h. pair_wrapped c.args.span c.in_default.not-Brackets c.in_default.not-PathLambda h) c.no_pair-in_default.ensures.spelt
 
 pub pair-returns-in-empty-clause-spelt : goal.pair-returns-in-empty-clause-spelt
 pair-returns-in-empty-clause-spelt t c =
     let empty = none c.as_slice.result.now (omega (arith, c.in-empty.len_below)) in
-    pair_refused _ _ c.no_pair.result (λ C h. none_pair_spelt c.args.span C h c.in-Brackets.inner c.in-Brackets.components c.in-Brackets.is c.as_slice.ensures empty) c.no_pair.ensures.spelt
+    pair_refused _ _ _ _ c.no_pair.result (λ C h. none_pair_spelt c.args.span C h c.in-Brackets.inner c.in-Brackets.components c.in-Brackets.is c.as_slice.ensures empty) c.no_pair.ensures.spelt
 
 pub pair-returns-in-empty-rest-clause-spelt : goal.pair-returns-in-empty-rest-clause-spelt
 pair-returns-in-empty-rest-clause-spelt t c =
     let xs = c.as_slice.result.now in
     let front = front_one xs c.first-item.result c.in-len1-up.len_at_least c.first-item.is in
     let empty = none (rest_after 1 xs) (omega (arith, c.in-empty-rest.len_below)) in
-    pair_seen _ _ _ c.pair.result (brackets_seen c.in-Brackets.inner c.in-Brackets.components c.in-Brackets.is c.as_slice.ensures (front ∙ ap (λ ys. c.first-item.result ∷ ys) empty)) c.pair.ensures.spelt
+    pair_seen _ _ _ _ _ c.pair.result (brackets_seen c.args.self.now.names.bytes.now c.in-Brackets.inner c.in-Brackets.components c.in-Brackets.is c.as_slice.ensures (front ∙ ap (λ ys. c.first-item.result ∷ ys) empty)) c.pair.ensures.spelt
 
 pub pair-returns-in_ok-exps-in-len1-up-rest-clause-spelt : goal.pair-returns-in_ok-exps-in-len1-up-rest-clause-spelt
 pair-returns-in_ok-exps-in-len1-up-rest-clause-spelt t c =
@@ -810,21 +913,21 @@ pair-returns-in_ok-exps-in-len1-up-rest-clause-spelt t c =
     let front = front_one xs x c.in-len1-up.len_at_least c.first-item.is in
     let second = begins (rest_after 1 xs) c.in-len1-up-rest.len_at_least in
     several_pair_spelt c.args.span c.in-Brackets.inner c.in-Brackets.components c.in_ok-ty-in-len1-up-rest.ty c.tuple-equivalence.result c.in-Brackets.is c.as_slice.ensures front second.1
-    c.in_ok-ty-in-len1-up-rest.ensures.spelt c.in_ok-exps-in-len1-up-rest.ensures.spelt c.tuple-equivalence.ensures.shaped
+    c.in_ok-ty-in-len1-up-rest.ensures.spelt (terms_among c.in_ok-ty-in-len1-up-rest.ensures.resolves.keeps.names c.in_ok-exps-in-len1-up-rest.ensures.spelt) c.tuple-equivalence.ensures.shaped
 
 pub pair-returns-in-empty-as_slice-clause-spelt : goal.pair-returns-in-empty-as_slice-clause-spelt
 pair-returns-in-empty-as_slice-clause-spelt t c =
     let empty = none c.as_slice-in-PathLambda.result.now (omega (arith, c.in-empty-as_slice.len_below)) in
-    pair_seen _ _ _ c.pair-in-empty-as_slice.result (path_seen c.in-PathLambda.span c.in-PathLambda.names c.in-PathLambda.body c.in-PathLambda.is c.as_slice-in-PathLambda.ensures empty c.deref.ensures)
+    pair_seen _ _ _ _ _ c.pair-in-empty-as_slice.result (path_seen c.args.self.now.names.bytes.now c.in-PathLambda.span c.in-PathLambda.names c.in-PathLambda.body c.in-PathLambda.is c.as_slice-in-PathLambda.ensures empty c.deref.ensures)
     c.pair-in-empty-as_slice.ensures.spelt
 
 pub pair-returns-in-len1-up-as_slice-clause-spelt : goal.pair-returns-in-len1-up-as_slice-clause-spelt
 pair-returns-in-len1-up-as_slice-clause-spelt t c =
     let first = begins c.as_slice-in-PathLambda.result.now c.in-len1-up-as_slice.len_at_least in
-    pair_refused _ _ c.no_pair-in-len1-up-as_slice.result (λ C h. names_pair_spelt c.args.span C h c.in-PathLambda.span first.0 _ _ c.in-PathLambda.body c.in-PathLambda.is (sym c.as_slice-in-PathLambda.ensures ∙ first.1))
+    pair_refused _ _ _ _ c.no_pair-in-len1-up-as_slice.result (λ C h. names_pair_spelt c.args.span C h c.in-PathLambda.span first.0 _ _ c.in-PathLambda.body c.in-PathLambda.is (sym c.as_slice-in-PathLambda.ensures ∙ first.1))
     c.no_pair-in-len1-up-as_slice.ensures.spelt
 
 pub def-returns-clause-spelt : goal.def-returns-clause-spelt
 def-returns-clause-spelt t c =
-    def_spelt c.args.def.now c.in_ok-body-2.body c.new.result c.new.ensures.shaped c.in_ok-body-2.ensures.shaped c.span_of.ensures c.as_slice.ensures c.as_slice-2.ensures
-    c.in_ok-binders.ensures.spelt c.in_ok-ty.ensures.spelt c.in_ok-locals.ensures.spelt c.in_ok-body.ensures.spelt
+    def_spelt c.args.def.now _ c.in_ok-body-2.body c.new.result c.new.ensures.shaped c.in_ok-body-2.ensures.shaped c.span_of.ensures c.as_slice.ensures c.as_slice-2.ensures
+    c.in_ok-ty.ensures.resolves.keeps.names c.in_ok-binders.ensures.spelt c.in_ok-ty.ensures.spelt c.in_ok-locals.ensures.spelt c.in_ok-body.ensures.spelt

@@ -1,0 +1,5 @@
+pub mod MeaningLaws
+pub mod TypingLaws
+pub mod OneCode
+pub mod NumberLaws
+pub mod ProgramLaws
