@@ -3,7 +3,8 @@
 
 Runs `rt ci`, or watches one that runs already, and reads from /proc twice a second what each prover under it has taken. A prover
 with `--test` proves tests; one in a crate's folder proves code; one in a copy of its own tries an edit. Other work on the machine
-makes the minutes a little more than they are alone. The script needs Linux, Python 3 and `rt`.
+makes the minutes a little more than they are alone. Where the script is interrupted it prints what it has read so far. It needs
+Linux, Python 3 and `rt`.
 """
 
 import argparse
@@ -62,15 +63,18 @@ def work_of(pid):
 
 
 def watch(root, running):
-    """The processor seconds of each crate and kind of work under this process, until it has ended."""
+    """The processor seconds of each crate and kind of work under this process, until it has ended or this script is interrupted."""
     seconds = {}
-    while running():
-        found = processes()
-        for pid in below(root, found):
-            work = work_of(pid)
-            if work and pid in found:
-                seconds[work, pid] = found[pid][1]
-        time.sleep(0.5)
+    try:
+        while running():
+            found = processes()
+            for pid in below(root, found):
+                work = work_of(pid)
+                if work and pid in found:
+                    seconds[work, pid] = found[pid][1]
+            time.sleep(0.5)
+    except KeyboardInterrupt:
+        pass
     whole = collections.Counter()
     for (work, _), taken in seconds.items():
         whole[work] += taken
