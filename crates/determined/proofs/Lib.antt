@@ -2,4 +2,5 @@ pub mod MeaningLaws
 pub mod TypingLaws
 pub mod OneCode
 pub mod NumberLaws
+pub mod TextLaws
 pub mod ProgramLaws

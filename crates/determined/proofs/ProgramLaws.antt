@@ -1,4 +1,5 @@
--- Whichever codes modules become, numbered in order, they are one but for where their parts lie.
+-- Whichever codes modules become, numbered in order, they are one but for where their parts lie;
+-- also where the modules differ in where they lie.
 use Rattle.std.proofs.Common.{◌≡◌, ◌+◌, ℕ, List, [], ◌∷◌, ◌++◌, length, map, reverse, refl, sym, ◌∙◌, ap, subst, add_comm}
 use Rattle.syntax.specs.View.{module_of}
 use Rattle.codes.specs.declared.code.CodeDef.{CodeDef, CodeDef', out-CodeDef}
@@ -16,6 +17,7 @@ use Rattle.module_texts.specs.Texts.{name_of, imports_of}
 use Rattle.readings.specs.Shaped.{after_definition}
 use Rattle.resolver.specs.declared.resolving.Codes.{Codes}
 use Rattle.resolver.specs.Resolved.{bound_by, definitions_of, defs_in}
+use Rattle.loading.specs.Same.{SameTexts}
 use Rattle.linking.specs.Modules.{reached}
 use Rattle.linking.specs.Reaching.{Numbered}
 use Rattle.linking.specs.Linked.{AllBecome, IsLinked, numbered_as}
@@ -23,6 +25,7 @@ use Rattle.determined.specs.Numbers.{numbers_before, numbers_in, AreNumbered}
 use Rattle.determined.proofs.OneCode.{one_codes}
 use Rattle.determined.proofs.NumberLaws.{Counts, defs-count}
 use Rattle.determined.proofs.TypingLaws.{one_place}
+use Rattle.determined.proofs.TextLaws.{same_codes}
 
 -- lists of shapes
 
@@ -84,13 +87,14 @@ from_next : (ds : List (Stated ℕ)) (next m : ℕ) {f : List ℕ → List ℕ} 
 from_next ds next m h e =
     sym (h.counted _) ∙ ap (λ ns. ns ++ count_from m (next + length ds)) e ∙ sym (count_append (length ds) m next)
 
-pub one_list : (texts : List ModuleText) (a b : Codes) → IsLinked texts a → IsLinked texts b → listed def_shape (defs_in a) ≡ listed def_shape (defs_in b)
-one_list texts a b i j =
-    let xs = (definitions (defs_in a) []).stated in
-    let ys = (definitions (defs_in b) []).stated in
-    (one_program texts [] (defs_in a) (defs_in b) i.known j.known (count_from (length ys) (0 + length xs)) (count_from (length xs) (0 + length ys)) i.spelt j.spelt
-    (from_next xs 0 (length ys) (defs-count (defs_in a) []) i.numbered ∙ ap (λ k. count_from k 0) (add_comm (length xs) (length ys))
-    ∙ sym (from_next ys 0 (length xs) (defs-count (defs_in b) []) j.numbered))).0
+pub one_list : (xs ys : List ModuleText) (a b : Codes) → SameTexts xs ys → IsLinked xs a → IsLinked ys b → listed def_shape (defs_in a) ≡ listed def_shape (defs_in b)
+one_list xs ys a b s i j =
+    let ds = (definitions (defs_in a) []).stated in
+    let es = (definitions (defs_in b) []).stated in
+    (one_program ys [] (defs_in a) (defs_in b) i.known j.known (count_from (length es) (0 + length ds)) (count_from (length ds) (0 + length es))
+    (same_codes [] xs ys (defs_in a) i.known s i.spelt) j.spelt
+    (from_next ds 0 (length es) (defs-count (defs_in a) []) i.numbered ∙ ap (λ k. count_from k 0) (add_comm (length ds) (length es))
+    ∙ sym (from_next es 0 (length ds) (defs-count (defs_in b) []) j.numbered))).0
 
-pub one_answer : (texts : List ModuleText) (a b : Codes) (G : Known) → IsLinked texts a → IsLinked texts b → other_place (defs_in a) G ≡ other_place (defs_in b) G
-one_answer texts a b G i j = one_place (defs_in a) (defs_in b) G (one_list texts a b i j)
+pub one_answer : (xs ys : List ModuleText) (a b : Codes) (G : Known) → SameTexts xs ys → IsLinked xs a → IsLinked ys b → other_place (defs_in a) G ≡ other_place (defs_in b) G
+one_answer xs ys a b G s i j = one_place (defs_in a) (defs_in b) G (one_list xs ys a b s i j)
