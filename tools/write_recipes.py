@@ -44,6 +44,7 @@ CRATES = {
         "fill_faces", "fill_lines", "contr_variable", "pres_numbers", "equiv_variable",
         "equiv_numbers", "fill_premises",
     ],
+    "behind_tests": ["glued"],
 }
 EARLIER = {"pres": ["fill"], "equiv": ["contr"]}
 EARLIER |= {name: CRATES["kan_fill"] for name in CRATES["kan_tests"]}

@@ -1,0 +1,28 @@
+//! What stands behind every node of a book: each question is asked of each node of which it may be
+//! asked, and each answer is compared with the judgement that it should conclude.
+//!
+//! ```text
+//! derive_whole(&mut book, Whole::Identity)?;
+//! let tally = ask_every_node(alloc, &mut book, Asked::Type)?;
+//! // tally.asked questions, and tally.wrong answers, of which there should be none
+//! ```
+#![tactic(auto)]
+
+/// The rows of a table, each on a line of its own however long.
+macro_rules! table {
+    ($($row:expr,)*) => { &[$($row),*] };
+}
+
+mod answers;
+mod asking;
+mod forms;
+mod glued;
+mod runs;
+mod telescope;
+
+pub use asking::{Asked, Tally, ask, ask_every_node, every_node};
+pub use runs::{Whole, derive_whole};
+pub use telescope::{applied_to_all, function_of};
+
+#[cfg(test)]
+mod tests;
