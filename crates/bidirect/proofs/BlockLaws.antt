@@ -9,8 +9,8 @@ use Rattle.codes.specs.declared.code.CodeDef.{CodeDef, CodeDef'}
 use Rattle.codes.specs.Codes.{meaning, binders, definition, definitions}
 use Rattle.direct.specs.Known.{Known, Variable, Interval, Definition, scope_of, value_at}
 use Rattle.direct.specs.Typings.{where_true}
-use Rattle.bidirect.specs.States.{State, Inferred, place, place_of, forgetting, stated_at}
-use Rattle.bidirect.specs.Outcomes.{definition_typed, block_typed}
+use Rattle.typing_tasks.specs.States.{State, Inferred, place, place_of, forgetting, stated_at}
+use Rattle.typing_tasks.specs.Outcomes.{definition_typed, block_typed}
 
 pub where_some : {A : Type 0} (p : Bool) (x y : A) → where_true p (Some x) ≡ Some y → x ≡ y
 where_some true x y e = cc e

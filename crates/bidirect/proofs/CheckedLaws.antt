@@ -12,19 +12,19 @@ use Rattle.book.specs.Contents.{Contents}
 use Rattle.book.specs.Shown.{Extends}
 use Rattle.places.proofs.GrowthLaws.{further}
 use Rattle.direct.specs.Known.{Known, scope_of}
-use Rattle.bidirect.specs.declared.state.CheckState.{CheckState}
-use Rattle.bidirect.specs.declared.tasks.Task.{Task}
-use Rattle.bidirect.specs.declared.tasks.Task.TheVariants as task
-use Rattle.bidirect.specs.declared.tasks.Defining.TheVariants as defining
-use Rattle.bidirect.specs.declared.tasks.Binding.TheVariants as binding
-use Rattle.bidirect.specs.declared.tasks.Inner.TheVariants as inner
-use Rattle.bidirect.specs.declared.tasks.Tasks.{Tasks}
-use Rattle.bidirect.specs.States.{State, nothing, stated_at, with_known, after}
-use Rattle.bidirect.specs.Outcomes.{definition_typed}
-use Rattle.bidirect.specs.Steps.{IsState, IsStated}
+use Rattle.typing_steps.specs.declared.state.CheckState.{CheckState}
+use Rattle.typing_tasks.specs.declared.tasks.Task.{Task}
+use Rattle.typing_tasks.specs.declared.tasks.Task.TheVariants as task
+use Rattle.typing_tasks.specs.declared.tasks.Defining.TheVariants as defining
+use Rattle.typing_tasks.specs.declared.tasks.Binding.TheVariants as binding
+use Rattle.typing_tasks.specs.declared.tasks.Inner.TheVariants as inner
+use Rattle.typing_tasks.specs.declared.tasks.Tasks.{Tasks}
+use Rattle.typing_tasks.specs.States.{State, nothing, stated_at, with_known, after}
+use Rattle.typing_tasks.specs.Outcomes.{definition_typed}
+use Rattle.typing_steps.specs.Steps.{IsState, IsStated}
 use Rattle.direct.specs.Direct.{other_place, place_after}
 use Rattle.bidirect.specs.Checked.{Checks, Knows, Runs, ToDo}
-use Rattle.bidirect.proofs.DefinitionLaws.{definition_law, definition_outcome, scope_after}
+use Rattle.typing_steps.proofs.DefinitionLaws.{definition_law, definition_outcome, scope_after}
 
 -- one definition
 

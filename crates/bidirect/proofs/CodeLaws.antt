@@ -17,23 +17,23 @@ use Rattle.book.specs.Contents.{Contents}
 use Rattle.direct.specs.Known.{Known, value_at}
 use Rattle.direct.specs.Typings.{Typing, OpenedTyping, where_true, holds, applied, projected}
 use Rattle.direct.specs.Literal.{at, is_tree, motive_step}
-use Rattle.bidirect.specs.declared.tasks.Task.{Task}
-use Rattle.bidirect.specs.declared.tasks.Task.TheVariants as task
-use Rattle.bidirect.specs.declared.tasks.Defining.TheVariants as defining
-use Rattle.bidirect.specs.declared.tasks.Eliminating.TheVariants as eliminating
-use Rattle.bidirect.specs.declared.tasks.Recurring.TheVariants as recurring
-use Rattle.bidirect.specs.declared.tasks.Lining.TheVariants as lining
-use Rattle.bidirect.specs.declared.tasks.Comparing.TheVariants as comparing
-use Rattle.bidirect.specs.declared.tasks.Sort.{Sort}
-use Rattle.bidirect.specs.declared.tasks.Sort.TheVariants.{Large, Small}
-use Rattle.bidirect.specs.States.{State, place, place_of, with_known, finding, inferring, after, stated_at}
-use Rattle.bidirect.specs.Outcomes.{typed, line_typed, motive_typed, element_typed, element_of, block_typed, infer, check, form, formed, passes, opened_passes, block, opened, let_of, successor_of, recursion_of, application_of, projection_of, path_type_of, transported}
-use Rattle.bidirect.specs.Tasks.{Run, Then}
-use Rattle.bidirect.proofs.Planning.{run_one}
-use Rattle.bidirect.proofs.OutcomeLaws.{then_where, then_map}
+use Rattle.typing_tasks.specs.declared.tasks.Task.{Task}
+use Rattle.typing_tasks.specs.declared.tasks.Task.TheVariants as task
+use Rattle.typing_tasks.specs.declared.tasks.Defining.TheVariants as defining
+use Rattle.typing_tasks.specs.declared.tasks.Eliminating.TheVariants as eliminating
+use Rattle.typing_tasks.specs.declared.tasks.Recurring.TheVariants as recurring
+use Rattle.typing_tasks.specs.declared.tasks.Lining.TheVariants as lining
+use Rattle.typing_tasks.specs.declared.tasks.Comparing.TheVariants as comparing
+use Rattle.typing_tasks.specs.declared.tasks.Sort.{Sort}
+use Rattle.typing_tasks.specs.declared.tasks.Sort.TheVariants.{Large, Small}
+use Rattle.typing_tasks.specs.States.{State, place, place_of, with_known, finding, inferring, after, stated_at}
+use Rattle.typing_tasks.specs.Outcomes.{typed, line_typed, motive_typed, element_typed, element_of, block_typed, infer, check, form, formed, passes, opened_passes, block, opened, let_of, successor_of, recursion_of, application_of, projection_of, path_type_of, transported}
+use Rattle.typing_tasks.specs.Tasks.{Run, Then}
+use Rattle.typing_steps.proofs.Planning.{run_one}
+use Rattle.typing_tasks.proofs.OutcomeLaws.{then_where, then_map}
 use Rattle.typed_nodes.specs.declared.types.TypeAt.{TypeAt}
 use Rattle.typed_nodes.specs.Typed.{IsTypeAt}
-use Rattle.bidirect.proofs.GrowthLaws.{run_append}
+use Rattle.typing_steps.proofs.GrowthLaws.{run_append}
 use Rattle.bidirect.proofs.BlockLaws.{block_facts, let_state}
 
 abbrev end_task : ℕ → Task

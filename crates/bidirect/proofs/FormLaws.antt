@@ -21,17 +21,17 @@ use Rattle.direct.specs.Literal.{is_tree}
 use Rattle.direct.specs.Direct.{typing, line}
 use Rattle.typed_nodes.specs.declared.types.TypeAt.{TypeAt}
 use Rattle.typed_nodes.specs.Typed.{IsTypeAt}
-use Rattle.bidirect.specs.declared.tasks.Task.TheVariants as task
-use Rattle.bidirect.specs.declared.tasks.Comparing.TheVariants as comparing
-use Rattle.bidirect.specs.declared.tasks.Sort.TheVariants.{Large}
+use Rattle.typing_tasks.specs.declared.tasks.Task.TheVariants as task
+use Rattle.typing_tasks.specs.declared.tasks.Comparing.TheVariants as comparing
+use Rattle.typing_tasks.specs.declared.tasks.Sort.TheVariants.{Large}
 use Rattle.bidirect.specs.Forms.{AsksNothing, binding_form, checked_form, compound_form, former_form, lined_form, universe_form}
-use Rattle.bidirect.specs.States.{State, place, finding, inferring, after}
-use Rattle.bidirect.specs.Weights.{weight_of}
-use Rattle.bidirect.specs.Outcomes.{typed, line_typed, transported, infer, check, form}
-use Rattle.bidirect.specs.Tasks.{Run}
-use Rattle.bidirect.proofs.Planning.{run_one}
-use Rattle.bidirect.proofs.OutcomeLaws.{then_map}
-use Rattle.bidirect.proofs.TypingRows.{tree_typing, tree_line}
+use Rattle.typing_tasks.specs.States.{State, place, finding, inferring, after}
+use Rattle.typing_tasks.specs.Weights.{weight_of}
+use Rattle.typing_tasks.specs.Outcomes.{typed, line_typed, transported, infer, check, form}
+use Rattle.typing_tasks.specs.Tasks.{Run}
+use Rattle.typing_steps.proofs.Planning.{run_one}
+use Rattle.typing_tasks.proofs.OutcomeLaws.{then_map}
+use Rattle.typing_tasks.proofs.TypingRows.{tree_typing, tree_line}
 
 -- compositions
 

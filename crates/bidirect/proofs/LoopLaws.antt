@@ -4,18 +4,18 @@ use Rattle.std.proofs.lemmas.List.{reverse-append, reverse-reverse}
 use Rattle.book.specs.Contents.{Contents}
 use Rattle.book.specs.Shown.{Extends}
 use Rattle.places.proofs.GrowthLaws.{further}
-use Rattle.bidirect.specs.declared.state.CheckState.{CheckState}
-use Rattle.bidirect.specs.declared.tasks.Task.{Task}
-use Rattle.bidirect.specs.declared.tasks.Tasks.{Tasks}
-use Rattle.bidirect.specs.declared.tasks.Next.{Next}
-use Rattle.bidirect.specs.declared.tasks.Next.TheVariants.{Moved, NotDirect}
-use Rattle.bidirect.specs.States.{State}
-use Rattle.bidirect.specs.Tasks.{Run, Then}
-use Rattle.bidirect.specs.Weights.{weight, weights}
-use Rattle.bidirect.specs.Steps.{Finishes, MayStep, Steps}
+use Rattle.typing_steps.specs.declared.state.CheckState.{CheckState}
+use Rattle.typing_tasks.specs.declared.tasks.Task.{Task}
+use Rattle.typing_tasks.specs.declared.tasks.Tasks.{Tasks}
+use Rattle.typing_tasks.specs.declared.tasks.Next.{Next}
+use Rattle.typing_tasks.specs.declared.tasks.Next.TheVariants.{Moved, NotDirect}
+use Rattle.typing_tasks.specs.States.{State}
+use Rattle.typing_tasks.specs.Tasks.{Run, Then}
+use Rattle.typing_tasks.specs.Weights.{weight, weights}
+use Rattle.typing_steps.specs.Steps.{Finishes, MayStep, Steps}
 use Rattle.bidirect.specs.Checked.{Runs, ToDo}
-use Rattle.bidirect.proofs.GrowthLaws.{run_append, then_later}
-use Rattle.bidirect.proofs.Planning.{settled}
+use Rattle.typing_steps.proofs.GrowthLaws.{run_append, then_later}
+use Rattle.typing_steps.proofs.Planning.{settled}
 
 -- weights
 

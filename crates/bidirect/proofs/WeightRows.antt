@@ -8,8 +8,8 @@ use Rattle.codes.specs.declared.code.Element.{Element, Argument as Argument', At
 use Rattle.codes.specs.declared.code.Opened.{Opened}
 use Rattle.codes.specs.declared.code.CodeDef.{CodeDef}
 use Rattle.codes.specs.declared.code.LineSide.{LineSide}
-use Rattle.bidirect.specs.Weights.{size, codes_size, binders_size, elements_size, defs_size, def_size, projections_size, weight_of, opened_weight, def_weight, sum, binder_weight, element_weight}
-use Rattle.bidirect.proofs.TypingRows.{row_of-CodeDef, row_of-Binder, row_of-Element, row_of-Code}
+use Rattle.typing_tasks.specs.Weights.{size, codes_size, binders_size, elements_size, defs_size, def_size, projections_size, weight_of, opened_weight, def_weight, sum, binder_weight, element_weight}
+use Rattle.typing_tasks.proofs.TypingRows.{row_of-CodeDef, row_of-Binder, row_of-Element, row_of-Code}
 
 -- rows are the lists that they were made of
 

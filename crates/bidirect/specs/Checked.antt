@@ -8,15 +8,15 @@ use Rattle.translation.specs.Translated.{Stated}
 use Rattle.book.specs.Contents.{Contents}
 use Rattle.direct.specs.Known.{Known}
 use Rattle.direct.specs.Direct.{other_place}
-use Rattle.bidirect.specs.declared.state.CheckState.{CheckState}
-use Rattle.bidirect.specs.declared.tasks.Task.{Task}
-use Rattle.bidirect.specs.declared.tasks.Tasks.{Tasks}
+use Rattle.typing_steps.specs.declared.state.CheckState.{CheckState}
+use Rattle.typing_tasks.specs.declared.tasks.Task.{Task}
+use Rattle.typing_tasks.specs.declared.tasks.Tasks.{Tasks}
 use Rattle.bidirect.specs.declared.checker.Checked.{Checked}
 use Rattle.bidirect.specs.declared.checker.Checked.TheVariants.{Direct, NotDirect}
-use Rattle.bidirect.specs.States.{State, stated_at}
-use Rattle.bidirect.specs.Outcomes.{definition_typed}
-use Rattle.bidirect.specs.Tasks.{Run}
-use Rattle.bidirect.specs.Steps.{IsStated, IsState}
+use Rattle.typing_tasks.specs.States.{State, stated_at}
+use Rattle.typing_tasks.specs.Outcomes.{definition_typed}
+use Rattle.typing_tasks.specs.Tasks.{Run}
+use Rattle.typing_steps.specs.Steps.{IsStated, IsState}
 
 -- All are direct, and the nodes conclude what they state; or this is the place of the first that
 -- is not.

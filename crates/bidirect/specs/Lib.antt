@@ -1,7 +1,2 @@
-pub mod States
-pub mod Outcomes
 pub mod Forms
-pub mod Tasks
-pub mod Weights
-pub mod Steps
 pub mod Checked

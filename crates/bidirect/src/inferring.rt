@@ -1,30 +1,24 @@
 //! How each form of a code is inferred, checked, and taken as a type.
 
-ghost use Rattle.std.specs.Prelude.{◌≡◌, ◌≤◌, ◌+◌, IfOk, Some, true};
-ghost use Rattle.std.specs.Option.{option_map};
-ghost use Rattle.trees.specs.Trees.{Var};
-ghost use Rattle.translation.specs.Terms.{nat, universe, zero as zero_tree};
-ghost use Rattle.codes.specs.Codes.{body_of};
-ghost use Rattle.direct.specs.Known.{declared_type, scope_of, type_of_variable};
+ghost use Rattle.std.specs.Prelude.{◌≡◌, ◌≤◌, ◌+◌, IfOk, true};
 ghost use Rattle.book.specs.Shown.{Extends};
-ghost use Rattle.bidirect.specs.States.{State, inferring};
-ghost use Rattle.bidirect.specs.Outcomes.{infer, line_typed, transported, typed};
+ghost use Rattle.typing_tasks.specs.Outcomes.{infer as inferred, line_typed, transported, typed};
 ghost use Rattle.bidirect.specs.Forms.{AsksNothing, binding_form, checked_form, compound_form};
 ghost use Rattle.bidirect.specs.Forms.{former_form, lined_form, universe_form};
-ghost use Rattle.bidirect.specs.Steps.{IsState, MayStep, Plans, PlansFor, Settles, Steps};
-ghost use Rattle.bidirect.specs.Weights.{opened_weight, weight, weight_of};
-ghost use Rattle.bidirect.specs.declared.tasks.Task.{Task as TaskOf};
-ghost use Rattle.bidirect.specs.declared.tasks.Task.TheVariants.{Check, Form, Infer};
+ghost use Rattle.typing_steps.specs.Steps.{MayStep, Plans, PlansFor, Steps};
+ghost use Rattle.typing_tasks.specs.Weights.{opened_weight, weight, weight_of};
+ghost use Rattle.typing_tasks.specs.declared.tasks.Task.{Task as TaskOf};
+ghost use Rattle.typing_tasks.specs.declared.tasks.Task.TheVariants.{Check, Form, Infer};
 
-use crate::state::CheckState;
-use crate::tasks::{
-    Binding, Comparing, Defining, Eliminating, Former, Inner, Lining, Next, Pairing, Recurring,
-    Sort, Task, Tasks,
-};
 use book::Book;
 use codes::{Code, Opened};
 use std::alloc::AllocError;
-use typed_nodes::{TypeAt, Typed, numbers_type, universe_type, zero};
+use typed_nodes::{TypeAt, universe_type};
+use typing_steps::CheckState;
+use typing_tasks::{
+    Binding, Comparing, Defining, Eliminating, Former, Inner, Lining, Next, Pairing, Recurring,
+    Sort, Task, Tasks,
+};
 
 /// Whether it is checked by its parts.
 fn is_checked(code: &Code) -> bool
@@ -147,123 +141,56 @@ fn former<'a>(tasks: &mut Tasks<'a>, code: &'a Code, sort: Sort) -> Result<Next,
     }
 }
 
-impl CheckState {
-    /// To take a code as a type, or to check it at the universe.
-    pub(crate) fn form<'a>(
-        &mut self,
-        book: &mut Book,
-        tasks: &mut Tasks<'a>,
-        code: &'a Code,
-        sort: Sort,
-    ) -> Result<Next, AllocError>
-        requires { MayStep book.old self.old (Form code sort) }
-        ensures extends { Extends book.old book.new }
-        ensures steps { IfOk result (Steps book.old book.new self.old self.new
-            tasks.old tasks.new (Form code.entry sort)) }
-    {
-        if is_former(code) {
-            return Ok(former(tasks, code, sort)?);
-        }
-        match sort {
-            Sort::Large => {
-                if is_universe(code) {
-                    let node = universe_type(book, self.ctx())?;
-                    self.found(node)?;
-                    return Ok(Next::Moved);
-                }
-                Ok(tasks.plan(&[Task::Infer(code), Task::Comparing(Comparing::IsSmall)])?)
+/// To take a code as a type, or to check it at the universe.
+pub(crate) fn form<'a>(
+    state: &mut CheckState,
+    book: &mut Book,
+    tasks: &mut Tasks<'a>,
+    code: &'a Code,
+    sort: Sort,
+) -> Result<Next, AllocError>
+    requires { MayStep book.old state.old (Form code sort) }
+    ensures extends { Extends book.old book.new }
+    ensures steps { IfOk result (Steps book.old book.new state.old state.new
+        tasks.old tasks.new (Form code.entry sort)) }
+{
+    if is_former(code) {
+        return Ok(former(tasks, code, sort)?);
+    }
+    match sort {
+        Sort::Large => {
+            if is_universe(code) {
+                let node = universe_type(book, state.ctx())?;
+                state.found(node)?;
+                return Ok(Next::Moved);
             }
-            Sort::Small => {
-                let ty = self.universe(book)?;
-                Ok(tasks.plan(&[Task::Check(code, ty)])?)
-            }
+            Ok(tasks.plan(&[Task::Infer(code), Task::Comparing(Comparing::IsSmall)])?)
+        }
+        Sort::Small => {
+            let ty = state.universe(book)?;
+            Ok(tasks.plan(&[Task::Check(code, ty)])?)
         }
     }
+}
 
-    /// To infer a code.
-    pub(crate) fn infer<'a>(
-        &mut self,
-        book: &mut Book,
-        tasks: &mut Tasks<'a>,
-        code: &'a Code,
-    ) -> Result<Next, AllocError>
-        requires { MayStep book.old self.old (Infer code) }
-        ensures extends { Extends book.old book.new }
-        ensures steps { IfOk result (Steps book.old book.new self.old self.new
-            tasks.old tasks.new (Infer code.entry)) }
-    {
-        match code {
-            Code::Bound { index, .. } => Ok(self.bound(book, *index)?),
-            Code::Defined { number, .. } => Ok(self.defined(book, *number)?),
-            Code::Nat { .. } => Ok(self.numbers_inferred(book)?),
-            Code::Zero { .. } => Ok(self.zero_inferred(book)?),
-            _ => Ok(infer_of(tasks, code)?),
-        }
-    }
-
-    /// A variable, with its type.
-    fn bound(&mut self, book: &mut Book, index: u32) -> Result<Next, AllocError>
-        requires { (S : State) × IsState book.old self.old S }
-        ensures extends { Extends book.old book.new }
-        ensures infers { IfOk result (λ next. (S : State) → IsState book.old self.old S →
-            Settles book.new self.new next
-            (option_map (λ A. inferring (Var index) A S) (type_of_variable S.known index))) }
-    {
-        match self.places.variable(book, index)? {
-            Some(head) => {
-                self.inferred(head)?;
-                Ok(Next::Moved)
-            }
-            None => Ok(Next::NotDirect),
-        }
-    }
-
-    /// A defined name, which is its body weakened.
-    fn defined(&mut self, book: &mut Book, number: u32) -> Result<Next, AllocError>
-        requires { (S : State) × IsState book.old self.old S }
-        ensures extends { Extends book.old book.new }
-        ensures infers { IfOk result (λ next. (S : State) → IsState book.old self.old S →
-            Settles book.new self.new next
-            (option_map (λ A. inferring (body_of (scope_of S.known) number) A S)
-            (declared_type S.known number))) }
-    {
-        let Some(def) = self.scope.find(number) else {
-            return Ok(Next::NotDirect);
-        };
-        let term = self.places.term_from(book, def.root.body, def.depth)?;
-        let sub = self.places.weakening(book, def.depth)?;
-        let ty = TypeAt {
-            ty: def.root.ty,
-            sub,
-        };
-        self.inferred(Typed { term, ty })?;
-        Ok(Next::Moved)
-    }
-
-    /// The type of numbers, as a term of the universe.
-    fn numbers_inferred(&mut self, book: &mut Book) -> Result<Next, AllocError>
-        requires { (S : State) × IsState book.old self.old S }
-        ensures extends { Extends book.old book.new }
-        ensures infers { IfOk result (λ next. (S : State) → IsState book.old self.old S →
-            Settles book.new self.new next (Some (inferring nat universe S))) }
-    {
-        let (term, _) = numbers_type(book, self.ctx())?;
-        let ty = self.universe(book)?;
-        self.inferred(Typed { term, ty })?;
-        Ok(Next::Moved)
-    }
-
-    /// Zero, as a number.
-    fn zero_inferred(&mut self, book: &mut Book) -> Result<Next, AllocError>
-        requires { (S : State) × IsState book.old self.old S }
-        ensures extends { Extends book.old book.new }
-        ensures infers { IfOk result (λ next. (S : State) → IsState book.old self.old S →
-            Settles book.new self.new next (Some (inferring zero_tree nat S))) }
-    {
-        let term = zero(book, self.ctx())?;
-        let ty = self.numbers(book)?;
-        self.inferred(Typed { term, ty })?;
-        Ok(Next::Moved)
+/// To infer a code.
+pub(crate) fn infer<'a>(
+    state: &mut CheckState,
+    book: &mut Book,
+    tasks: &mut Tasks<'a>,
+    code: &'a Code,
+) -> Result<Next, AllocError>
+    requires { MayStep book.old state.old (Infer code) }
+    ensures extends { Extends book.old book.new }
+    ensures steps { IfOk result (Steps book.old book.new state.old state.new
+        tasks.old tasks.new (Infer code.entry)) }
+{
+    match code {
+        Code::Bound { index, .. } => Ok(state.bound(book, *index)?),
+        Code::Defined { number, .. } => Ok(state.defined(book, *number)?),
+        Code::Nat { .. } => Ok(state.numbers_inferred(book)?),
+        Code::Zero { .. } => Ok(state.zero_inferred(book)?),
+        _ => Ok(infer_of(tasks, code)?),
     }
 }
 
@@ -275,7 +202,7 @@ fn transport<'a>(
 ) -> Result<Next, AllocError>
     ensures { (t : TaskOf) → opened_weight line.now + weight_of base.now + 16 ≤ weight t →
         IfOk result (PlansFor tasks.old tasks.new t
-        (infer (transported (line_typed line.now) (typed base.now)))) }
+        (inferred (transported (line_typed line.now) (typed base.now)))) }
 {
     Ok(tasks.plan(&[
         Task::Lining(Lining::Line(line, Sort::Large)),

@@ -12,19 +12,8 @@
 #![tactic(auto)]
 
 mod checker;
-mod comparing;
-mod definitions;
-mod eliminations;
-mod formulas;
-mod functions;
 mod inferring;
-mod lines;
-mod pairs;
-mod recursion;
-mod state;
 mod steps;
-mod tasks;
-mod types;
 
 pub use checker::{Checked, check_definitions};
-pub use state::Root;
+pub use typing_steps::Root;

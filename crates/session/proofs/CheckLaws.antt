@@ -15,8 +15,8 @@ use Rattle.book.specs.Contents.{Contents}
 use Rattle.book.specs.Shown.{book_concludes}
 use Rattle.book.specs.declared.kernel.NodeId.{NodeId}
 use Rattle.book_writer.specs.Written.{concluded_by}
-use Rattle.bidirect.specs.declared.state.Root.{Root}
-use Rattle.bidirect.specs.Steps.{IsStated}
+use Rattle.typing_steps.specs.declared.state.Root.{Root}
+use Rattle.typing_steps.specs.Steps.{IsStated}
 use Rattle.session.specs.declared.outcome.Outcome.{Outcome}
 use Rattle.session.specs.declared.outcome.Outcome.TheVariants as outcome
 use Rattle.session.specs.Outcomes.{IsCounted, StoresNothing}

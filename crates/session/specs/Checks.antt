@@ -18,7 +18,7 @@ use Rattle.module_texts.specs.Texts.{name_of, path_of}
 use Rattle.linking.specs.Modules.{judgements, names_in}
 use Rattle.book.specs.declared.kernel.NodeId.{NodeId}
 use Rattle.book_writer.specs.Written.{IsWritten}
-use Rattle.bidirect.specs.declared.state.Root.{Root}
+use Rattle.typing_steps.specs.declared.state.Root.{Root}
 use Rattle.direct.specs.Direct.{other_place}
 use Rattle.session.specs.declared.outcome.Outcome.{Outcome}
 use Rattle.session.specs.declared.outcome.Outcome.TheVariants as outcome

@@ -21,8 +21,8 @@ returns-then-not-branch-clause-checked c =
     let d = c.def-item.result in
     let now = c.loop-def.invariant.0 in
     let whole = drop_more defs k d c.loop-def-test.true ∙ ap (λ x. x ∷ drop (k + 1) defs) (sym c.def-item.is) in
-    one_refused c.args.book.now c.loop-def.book c.check_definition.new.book c.loop-def.state c.check_definition.new.self defs (drop k defs) (drop (k + 1) defs) d c.loop-def.place whole now
-    (subst (λ p. Checks c.check_definition.new.book c.check_definition.new.self p d now.known now.stated) c.if-not-branch.true (c.in_ok-check_definition.ensures.checks now.known now.stated now.knows))
+    one_refused c.args.book.now c.loop-def.book c.check_definition.new.book c.loop-def.state c.check_definition.new.state defs (drop k defs) (drop (k + 1) defs) d c.loop-def.place whole now
+    (subst (λ p. Checks c.check_definition.new.book c.check_definition.new.state p d now.known now.stated) c.if-not-branch.true (c.in_ok-check_definition.ensures.checks now.known now.stated now.knows))
 
 pub loop-def-preserved : goal.loop-def-preserved
 loop-def-preserved c =
@@ -31,8 +31,8 @@ loop-def-preserved c =
     let d = c.def-item.result in
     let now = c.loop-def.invariant.0 in
     let whole = drop_more defs k d c.loop-def-test.true ∙ ap (λ x. x ∷ drop (k + 1) defs) (sym c.def-item.is) in (
-      one_checked c.args.book.now c.loop-def.book c.check_definition.new.book c.loop-def.state c.check_definition.new.self defs (drop k defs) (drop (k + 1) defs) d c.loop-def.place whole now
-          c.in_ok-check_definition.ensures.extends (subst (λ p. Checks c.check_definition.new.book c.check_definition.new.self p d now.known now.stated) c.if-not-branch.false (c.in_ok-check_definition.ensures.checks now.known now.stated now.knows)),
+      one_checked c.args.book.now c.loop-def.book c.check_definition.new.book c.loop-def.state c.check_definition.new.state defs (drop k defs) (drop (k + 1) defs) d c.loop-def.place whole now
+          c.in_ok-check_definition.ensures.extends (subst (λ p. Checks c.check_definition.new.book c.check_definition.new.state p d now.known now.stated) c.if-not-branch.false (c.in_ok-check_definition.ensures.checks now.known now.stated now.knows)),
       ap (λ n. n + 1) c.loop-def.invariant.1,
     )
 

@@ -1,13 +1,13 @@
 use Rattle.std.proofs.Common.{◌≡◌, ◌<◌, ◌+◌, ◌*◌, [], ◌∷◌, map, sym, ap, ◌∙◌, arith}
-use Rattle.bidirect.specs.declared.tasks.Task.TheVariants as task
-use Rattle.bidirect.specs.declared.tasks.Defining.TheVariants as defining
-use Rattle.bidirect.specs.declared.tasks.Binding.TheVariants as binding
-use Rattle.bidirect.specs.declared.tasks.Pairing.TheVariants as pairing
-use Rattle.bidirect.specs.declared.tasks.Comparing.TheVariants as comparing
-use Rattle.bidirect.specs.Weights.{weight_of, def_weight, binder_weight, sum}
-use Rattle.bidirect.specs.Outcomes.{typed, binder_typed, check, let_of, function, path_function, tuple_of}
-use Rattle.bidirect.proofs.Planning.{plans, run_one}
-use Rattle.bidirect.proofs.TypingRows.{typed_let, typed_lambda, typed_path_lambda, typed_tuple}
+use Rattle.typing_tasks.specs.declared.tasks.Task.TheVariants as task
+use Rattle.typing_tasks.specs.declared.tasks.Defining.TheVariants as defining
+use Rattle.typing_tasks.specs.declared.tasks.Binding.TheVariants as binding
+use Rattle.typing_tasks.specs.declared.tasks.Pairing.TheVariants as pairing
+use Rattle.typing_tasks.specs.declared.tasks.Comparing.TheVariants as comparing
+use Rattle.typing_tasks.specs.Weights.{weight_of, def_weight, binder_weight, sum}
+use Rattle.typing_tasks.specs.Outcomes.{typed, binder_typed, check, let_of, function, path_function, tuple_of}
+use Rattle.typing_steps.proofs.Planning.{plans, run_one}
+use Rattle.typing_tasks.proofs.TypingRows.{typed_let, typed_lambda, typed_path_lambda, typed_tuple}
 use Rattle.bidirect.proofs.WeightRows.{weight_let, weight_lambda, weight_path_lambda, weight_tuple}
 use Rattle.bidirect.proofs.CodeLaws.{let_checks}
 use Rattle.bidirect.proofs.FormLaws.{checked_at}

@@ -1,15 +1,15 @@
 use Rattle.std.proofs.Common.{◌≡◌, ◌<◌, ◌+◌, [], ◌∷◌, map, sym, ap, ◌∙◌, subst, arith}
-use Rattle.bidirect.specs.declared.tasks.Task.TheVariants as task
-use Rattle.bidirect.specs.declared.tasks.Defining.TheVariants as defining
-use Rattle.bidirect.specs.declared.tasks.Binding.TheVariants as binding
-use Rattle.bidirect.specs.declared.tasks.Lining.TheVariants as lining
-use Rattle.bidirect.specs.declared.tasks.Inner.TheVariants as inner
-use Rattle.bidirect.specs.declared.tasks.Former.TheVariants as former
-use Rattle.bidirect.specs.Weights.{weight_of, opened_weight, def_weight, binder_weight, sum}
-use Rattle.bidirect.specs.Outcomes.{typed, line_typed, binder_typed, form, let_of, family, path_type_of}
-use Rattle.bidirect.specs.Tasks.{Run}
-use Rattle.bidirect.proofs.Planning.{plans, run_one}
-use Rattle.bidirect.proofs.TypingRows.{typed_let, typed_pi, typed_sigma, typed_path}
+use Rattle.typing_tasks.specs.declared.tasks.Task.TheVariants as task
+use Rattle.typing_tasks.specs.declared.tasks.Defining.TheVariants as defining
+use Rattle.typing_tasks.specs.declared.tasks.Binding.TheVariants as binding
+use Rattle.typing_tasks.specs.declared.tasks.Lining.TheVariants as lining
+use Rattle.typing_tasks.specs.declared.tasks.Inner.TheVariants as inner
+use Rattle.typing_tasks.specs.declared.tasks.Former.TheVariants as former
+use Rattle.typing_tasks.specs.Weights.{weight_of, opened_weight, def_weight, binder_weight, sum}
+use Rattle.typing_tasks.specs.Outcomes.{typed, line_typed, binder_typed, form, let_of, family, path_type_of}
+use Rattle.typing_tasks.specs.Tasks.{Run}
+use Rattle.typing_steps.proofs.Planning.{plans, run_one}
+use Rattle.typing_tasks.proofs.TypingRows.{typed_let, typed_pi, typed_sigma, typed_path}
 use Rattle.bidirect.proofs.WeightRows.{weight_let, weight_pi, weight_sigma, weight_path}
 use Rattle.bidirect.proofs.CodeLaws.{let_forms, path_form}
 use Rattle.bidirect.proofs.inferring.former.Goals as goal

@@ -1,17 +1,17 @@
 use Rattle.std.proofs.Common.{◌≡◌, ◌<◌, ◌+◌, [], ◌∷◌, map, refl, sym, ap, ◌∙◌, subst, arith}
 use Rattle.translation.specs.Terms.{universe}
-use Rattle.bidirect.specs.declared.tasks.Task.TheVariants as task
-use Rattle.bidirect.specs.declared.tasks.Defining.TheVariants as defining
-use Rattle.bidirect.specs.declared.tasks.Binding.TheVariants as binding
-use Rattle.bidirect.specs.declared.tasks.Comparing.TheVariants as comparing
-use Rattle.bidirect.specs.declared.tasks.Inner.TheVariants as inner
-use Rattle.bidirect.specs.declared.tasks.Former.TheVariants as former
-use Rattle.bidirect.specs.declared.tasks.Sort.TheVariants.{Small}
-use Rattle.bidirect.specs.Weights.{weight_of, def_weight, binder_weight, sum}
-use Rattle.bidirect.specs.Outcomes.{typed, binder_typed, infer, form, let_of, family, function}
-use Rattle.bidirect.specs.Tasks.{Run}
-use Rattle.bidirect.proofs.Planning.{plans, run_one}
-use Rattle.bidirect.proofs.TypingRows.{typed_let, typed_pi, typed_sigma, typed_lambda}
+use Rattle.typing_tasks.specs.declared.tasks.Task.TheVariants as task
+use Rattle.typing_tasks.specs.declared.tasks.Defining.TheVariants as defining
+use Rattle.typing_tasks.specs.declared.tasks.Binding.TheVariants as binding
+use Rattle.typing_tasks.specs.declared.tasks.Comparing.TheVariants as comparing
+use Rattle.typing_tasks.specs.declared.tasks.Inner.TheVariants as inner
+use Rattle.typing_tasks.specs.declared.tasks.Former.TheVariants as former
+use Rattle.typing_tasks.specs.declared.tasks.Sort.TheVariants.{Small}
+use Rattle.typing_tasks.specs.Weights.{weight_of, def_weight, binder_weight, sum}
+use Rattle.typing_tasks.specs.Outcomes.{typed, binder_typed, infer, form, let_of, family, function}
+use Rattle.typing_tasks.specs.Tasks.{Run}
+use Rattle.typing_steps.proofs.Planning.{plans, run_one}
+use Rattle.typing_tasks.proofs.TypingRows.{typed_let, typed_pi, typed_sigma, typed_lambda}
 use Rattle.bidirect.proofs.WeightRows.{weight_let, weight_pi, weight_sigma, weight_lambda}
 use Rattle.bidirect.proofs.BlockLaws.{where_some}
 use Rattle.bidirect.proofs.CodeLaws.{let_infers, small_infer}

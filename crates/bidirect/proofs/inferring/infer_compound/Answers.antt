@@ -1,12 +1,12 @@
 use Rattle.std.proofs.Common.{◌≡◌, ◌<◌, ◌+◌, [], ◌∷◌, map, sym, ap, ◌∙◌, subst, arith}
-use Rattle.bidirect.specs.declared.tasks.Task.TheVariants as task
-use Rattle.bidirect.specs.declared.tasks.Eliminating.TheVariants as eliminating
-use Rattle.bidirect.specs.declared.tasks.Recurring.TheVariants as recurring
-use Rattle.bidirect.specs.Weights.{weight_of, opened_weight, element_weight, projections_size, sum}
-use Rattle.bidirect.specs.Outcomes.{typed, motive_typed, element_typed, infer, successor_of, recursion_of, application_of, projection_of}
-use Rattle.bidirect.specs.Tasks.{Run}
-use Rattle.bidirect.proofs.Planning.{plans}
-use Rattle.bidirect.proofs.TypingRows.{typed_suc, typed_recursion, typed_apply, typed_project}
+use Rattle.typing_tasks.specs.declared.tasks.Task.TheVariants as task
+use Rattle.typing_tasks.specs.declared.tasks.Eliminating.TheVariants as eliminating
+use Rattle.typing_tasks.specs.declared.tasks.Recurring.TheVariants as recurring
+use Rattle.typing_tasks.specs.Weights.{weight_of, opened_weight, element_weight, projections_size, sum}
+use Rattle.typing_tasks.specs.Outcomes.{typed, motive_typed, element_typed, infer, successor_of, recursion_of, application_of, projection_of}
+use Rattle.typing_tasks.specs.Tasks.{Run}
+use Rattle.typing_steps.proofs.Planning.{plans}
+use Rattle.typing_tasks.proofs.TypingRows.{typed_suc, typed_recursion, typed_apply, typed_project}
 use Rattle.bidirect.proofs.WeightRows.{weight_suc, weight_recursion, weight_apply, weight_project}
 use Rattle.bidirect.proofs.CodeLaws.{successor_infer, recursion_infer, apply_infer, project_infer}
 use Rattle.bidirect.proofs.inferring.infer_compound.Goals as goal

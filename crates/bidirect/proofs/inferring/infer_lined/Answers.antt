@@ -1,15 +1,15 @@
 use Rattle.std.proofs.Common.{vec_len, true≢false, ◌≡◌, ◌<◌, ◌≤◌, ◌+◌, [], ◌∷◌, length, refl, sym, ap, ◌∙◌, subst, arith}
 use Rattle.translation.specs.Terms.{universe}
-use Rattle.bidirect.specs.declared.tasks.Task.TheVariants as task
-use Rattle.bidirect.specs.declared.tasks.Lining.TheVariants as lining
-use Rattle.bidirect.specs.declared.tasks.Comparing.TheVariants as comparing
-use Rattle.bidirect.specs.declared.tasks.Sort.TheVariants.{Small}
-use Rattle.bidirect.specs.Weights.{weight_of, opened_weight}
-use Rattle.bidirect.specs.Outcomes.{typed, line_typed, infer, path_type_of, transported}
-use Rattle.bidirect.specs.Tasks.{Run}
-use Rattle.bidirect.specs.Steps.{Leaves}
-use Rattle.bidirect.proofs.Planning.{plans}
-use Rattle.bidirect.proofs.TypingRows.{typed_path, typed_transport}
+use Rattle.typing_tasks.specs.declared.tasks.Task.TheVariants as task
+use Rattle.typing_tasks.specs.declared.tasks.Lining.TheVariants as lining
+use Rattle.typing_tasks.specs.declared.tasks.Comparing.TheVariants as comparing
+use Rattle.typing_tasks.specs.declared.tasks.Sort.TheVariants.{Small}
+use Rattle.typing_tasks.specs.Weights.{weight_of, opened_weight}
+use Rattle.typing_tasks.specs.Outcomes.{typed, line_typed, infer, path_type_of, transported}
+use Rattle.typing_tasks.specs.Tasks.{Run}
+use Rattle.typing_steps.specs.Steps.{Leaves}
+use Rattle.typing_steps.proofs.Planning.{plans}
+use Rattle.typing_tasks.proofs.TypingRows.{typed_path, typed_transport}
 use Rattle.bidirect.proofs.WeightRows.{weight_path, weight_transport, weight_comp}
 use Rattle.bidirect.proofs.BlockLaws.{where_some}
 use Rattle.bidirect.proofs.CodeLaws.{path_form, small_infer}

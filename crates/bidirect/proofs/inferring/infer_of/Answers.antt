@@ -1,5 +1,5 @@
 use Rattle.std.proofs.Common.{sym, ◌∙◌}
-use Rattle.bidirect.specs.Outcomes.{typed}
+use Rattle.typing_tasks.specs.Outcomes.{typed}
 use Rattle.bidirect.proofs.FormLaws.{never_inferred, infer_none}
 use Rattle.bidirect.proofs.inferring.infer_of.Goals as goal
 

@@ -1,9 +1,9 @@
 use Rattle.std.proofs.Common.{◌<◌, ◌+◌, [], ◌∷◌, arith}
-use Rattle.bidirect.specs.declared.tasks.Task.TheVariants as task
-use Rattle.bidirect.specs.declared.tasks.Lining.TheVariants as lining
-use Rattle.bidirect.specs.declared.tasks.Sort.TheVariants.{Large}
-use Rattle.bidirect.specs.Weights.{weight_of, opened_weight, weight}
-use Rattle.bidirect.proofs.Planning.{leaves}
+use Rattle.typing_tasks.specs.declared.tasks.Task.TheVariants as task
+use Rattle.typing_tasks.specs.declared.tasks.Lining.TheVariants as lining
+use Rattle.typing_tasks.specs.declared.tasks.Sort.TheVariants.{Large}
+use Rattle.typing_tasks.specs.Weights.{weight_of, opened_weight, weight}
+use Rattle.typing_steps.proofs.Planning.{leaves}
 use Rattle.bidirect.proofs.CodeLaws.{transport_infer}
 use Rattle.bidirect.proofs.inferring.transport.Goals as goal
 

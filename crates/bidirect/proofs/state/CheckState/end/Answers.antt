@@ -1,5 +1,0 @@
-use Rattle.bidirect.specs.States.{with_known}
-use Rattle.bidirect.proofs.state.CheckState.end.Goals as goal
-
-pub returns : goal.returns
-returns c = λ b S M is (G, known, made). (with_known G S, c.forget.ensures b S G is known, made)

@@ -1,5 +1,0 @@
-use Rattle.bidirect.specs.States.{with_known}
-use Rattle.bidirect.proofs.state.CheckState.left.Goals as goal
-
-pub returns : goal.returns
-returns c = λ b S M is (G, known, made). (with_known G S, c.leave.ensures b S G is known, made)

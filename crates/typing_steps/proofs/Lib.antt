@@ -1,0 +1,13 @@
+pub mod Stacks
+pub mod GrowthLaws
+pub mod Planning
+pub mod StateLaws
+pub mod LineLaws
+pub mod DefinitionLaws
+pub mod BindingLaws
+pub mod TakingLaws
+pub mod PlaceLaws
+pub mod ClosingLaws
+pub mod KnownLaws
+pub mod PairLaws
+pub mod HeadLaws

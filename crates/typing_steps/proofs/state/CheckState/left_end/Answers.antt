@@ -1,0 +1,52 @@
+use Rattle.std.proofs.Common.{[], ◌∷◌, refl, arith}
+use Rattle.trees.specs.Trees.{push, id}
+use Rattle.trees.specs.Judgements.{WithName}
+use Rattle.translation.specs.Terms.{i0}
+use Rattle.direct.specs.Literal.{at}
+use Rattle.typed_nodes.specs.declared.types.TypeAt.{TypeAt}
+use Rattle.typed_nodes.specs.Typed.{IsTypeAt}
+use Rattle.typed_nodes.proofs.GrowthLaws.{says_later}
+use Rattle.places.proofs.GrowthLaws.{further}
+use Rattle.typing_tasks.specs.States.{place}
+use Rattle.typing_steps.proofs.GrowthLaws.{state_later}
+use Rattle.typing_steps.proofs.Planning.{leaves, run_one}
+use Rattle.typing_tasks.specs.declared.tasks.Task.TheVariants as task
+use Rattle.typing_tasks.specs.declared.tasks.Lining.TheVariants as lining
+use Rattle.typing_steps.proofs.state.CheckState.left_end.Goals as goal
+
+pub last_node-requires : goal.last_node-requires
+last_node-requires c =
+    let (S, M, is, does) = c.requires in
+    let (L, js, found, made) = does in
+    (c.args.book.now, S, _, js, is, found)
+
+pub as_type-requires : goal.as_type-requires
+as_type-requires c =
+    let (S, M, is, does) = c.requires in
+    let (L, js, found, made) = does in
+    (WithName (place S), L, c.last_node.ensures c.args.book.now S _ js is found)
+
+pub line_ends-requires : goal.line_ends-requires
+line_ends-requires c =
+    let (S, M, is, does) = c.requires in
+    (place S, c.ctx.ensures c.as_type.new.book S (state_later c.in_ok-ty.ensures.extends c.args.self.now S is))
+
+pub returns-clause-steps : goal.returns-clause-steps
+returns-clause-steps c = λ S M is (L, js, found, made).
+    let type = c.in_ok-ty.ensures.typed (WithName (place S)) L (c.last_node.ensures c.args.book.now S _ js is found) in
+    let state = state_later c.in_ok-ty.ensures.extends c.args.self.now S is in
+    let ends = c.in_ok-sub.ensures.typed (place S) (c.ctx.ensures c.as_type.new.book S state) in
+    let (moved, planned) = c.in_ok-plan.ensures in
+    let at_end : TypeAt = record { ty = c.in_ok-ty.ty; sub = c.in_ok-sub.sub } in
+    let is_type : IsTypeAt c.line_ends.new.book at_end (place S) (at L i0) = record { home = WithName (place S); tree = L; sub = push id i0; type_is = says_later _ _ _ _ c.in_ok-sub.ensures.extends type; sub_is = ends.0; is = refl } in
+    leaves _ c.args.self.now c.args.tasks.now c.plan.new.self (task.Lining (lining.Left c.args.code c.args.sort)) _ M S (task.Check c.args.code at_end ∷ []) moved (state_later c.in_ok-sub.ensures.extends c.args.self.now S state) planned (omega arith)
+    (run_one _ S M (task.Check c.args.code at_end) (at L i0, is_type, made))
+
+pub returns-in_err-sub-clause-extends : goal.returns-in_err-sub-clause-extends
+returns-in_err-sub-clause-extends c = further c.in_ok-ty.ensures.extends c.line_ends.ensures.extends
+
+pub returns-in_err-plan-clause-extends : goal.returns-in_err-plan-clause-extends
+returns-in_err-plan-clause-extends c = further c.in_ok-ty.ensures.extends c.in_ok-sub.ensures.extends
+
+pub returns-clause-extends : goal.returns-clause-extends
+returns-clause-extends c = further c.in_ok-ty.ensures.extends c.in_ok-sub.ensures.extends

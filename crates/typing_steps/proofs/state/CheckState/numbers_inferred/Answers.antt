@@ -1,0 +1,34 @@
+use Rattle.std.proofs.Common.{refl}
+use Rattle.translation.specs.Terms.{nat, universe}
+use Rattle.typed_nodes.specs.Typed.{IsTyped}
+use Rattle.places.proofs.GrowthLaws.{further}
+use Rattle.typing_tasks.specs.States.{place, inferring}
+use Rattle.typing_steps.proofs.GrowthLaws.{state_later}
+use Rattle.typing_steps.proofs.state.CheckState.numbers_inferred.Goals as goal
+
+pub numbers_type-requires : goal.numbers_type-requires
+numbers_type-requires c =
+    let (S, s) = c.requires in
+    (place S, c.ctx.ensures c.args.book.now S s)
+
+pub universe-requires : goal.universe-requires
+universe-requires c =
+    let (S, s) = c.requires in
+    (S, state_later c.in_ok-term.ensures.extends c.args.self.now S s)
+
+pub returns-in_err-ty-clause-extends : goal.returns-in_err-ty-clause-extends
+returns-in_err-ty-clause-extends c = further c.in_ok-term.ensures.extends c.in_err-ty.ensures.extends
+
+pub returns-in_err-inferred-clause-extends : goal.returns-in_err-inferred-clause-extends
+returns-in_err-inferred-clause-extends c = further c.in_ok-term.ensures.extends c.in_ok-ty.ensures.extends
+
+pub returns-clause-extends : goal.returns-clause-extends
+returns-clause-extends c = further c.in_ok-term.ensures.extends c.in_ok-ty.ensures.extends
+
+pub returns-clause-infers : goal.returns-clause-infers
+returns-clause-infers c = λ S s.
+    let says = c.in_ok-term.ensures.typed (place S) (c.ctx.ensures c.args.book.now S s) in
+    let (state, at) = c.in_ok-ty.ensures.here S (state_later c.in_ok-term.ensures.extends c.args.self.now S s) in
+    let typed : IsTyped c.universe.new.book (record { term = c.in_ok-term.term; ty = c.in_ok-ty.ty }) (place S) nat universe =
+    record { term_is = c.in_ok-ty.ensures.extends.conclusions c.in_ok-term.term.0 _ says.0; type_at = at } in
+    (inferring nat universe S, c.in_ok-inferred.ensures c.universe.new.book S nat universe state typed, refl)

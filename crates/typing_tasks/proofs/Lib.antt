@@ -1,0 +1,3 @@
+pub mod TypingRows
+pub mod OutcomeLaws
+pub mod SortLaws

@@ -1,0 +1,4 @@
+pub mod States
+pub mod Outcomes
+pub mod Tasks
+pub mod Weights
