@@ -87,7 +87,8 @@ told_stored count stored.Memory = None
 -- how a check may end, and what it leaves then
 pub data MayCheck (name : List ℕ) (old new : SeenFiles) (told : Outcome) : Type 0 where
   not_loaded : NotLoaded old.held name told → StoresNothing old new → MayCheck name old new told
-  not_resolved : NotResolved old.held name told → StoresNothing old new → MayCheck name old new told
+  not_resolved : NotResolved old.held name told → StoresNothing old new
+      → MayCheck name old new told
   not_direct : NotDirect old.held name told → StoresNothing old new → MayCheck name old new told
   derived : (bytes : List ℕ) (count : ℕ) → IsDerived old.held name bytes count
       → (answer : Stored) → IsStored name bytes old new answer → told_stored count answer ≡ Some told
