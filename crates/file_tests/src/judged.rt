@@ -1,7 +1,7 @@
 //! Files whose rows are right, and files with a row that is not.
 
 use replay::{Judged, Verdict, judge};
-use rows::{CtxId, CtxRow, Row, SubId, SubRow, TermId, TermRow};
+use rows::{CtxId, CtxRow, Maker, Row, SubId, SubRow, TermId, TermRow};
 use std::alloc::{AllocError, Global};
 use std::test::Fail;
 use theory::{Claim, Op};
@@ -294,11 +294,8 @@ fn long_files_are_judged(rt: HostRuntime) -> Result<(), Fail> {
 
 #[test]
 fn roots_are_compared_with_claims(rt: HostRuntime) -> Result<(), Fail> {
-    let text = lines(
-        rt.alloc(),
-        &["rules 1", "c nil", "n ctx.nil", "n nat.u 1 2", "r 2", "r 3"],
-    )?;
-    let Judged { verdict, mut rows } = judge(rt.alloc(), text.as_bytes())?;
+    let bytes = b"rules 1\nc nil\nn ctx.nil\nn nat.u 1 2\nr 2\nr 3\n".as_slice();
+    let Judged { verdict, mut rows } = judge(rt.alloc(), bytes)?;
     assert_eq!(rt; verdict, Verdict::Yes { rows: 6, roots: 2 });
     assert!(rt; rows.root_count() == 2);
     let nil = rows.add(Row::Context(CtxRow::Nil))?;
@@ -311,8 +308,8 @@ fn roots_are_compared_with_claims(rt: HostRuntime) -> Result<(), Fail> {
 
 #[test]
 fn rows_of_the_file_are_found(rt: HostRuntime) -> Result<(), Fail> {
-    let text = lines(rt.alloc(), &TWO[..7])?;
-    let mut rows = judge(rt.alloc(), text.as_bytes())?.rows;
+    let bytes = b"rules 1\nc nil\nn ctx.nil\nn nat.u 1 2\nt nat\nn ty.u 1 4 3\nr 5\n".as_slice();
+    let mut rows = judge(rt.alloc(), bytes)?.rows;
     let nil = rows.add(Row::Context(CtxRow::Nil))?;
     let nat = rows.add(Row::Term(TermRow::Make(Op::Nat, &[])))?;
     let zero = rows.add(Row::Term(TermRow::Make(Op::Zero, &[])))?;
@@ -325,14 +322,13 @@ fn rows_of_the_file_are_found(rt: HostRuntime) -> Result<(), Fail> {
 
 #[test]
 fn what_is_weakened_has_one_row(rt: HostRuntime) -> Result<(), Fail> {
-    let text = lines(rt.alloc(), &["rules 1", "c nil", "n ctx.nil", "r 2"])?;
-    let mut rows = judge(rt.alloc(), text.as_bytes())?.rows;
+    let bytes = b"rules 1\nc nil\nn ctx.nil\nr 2\n".as_slice();
+    let mut rows = judge(rt.alloc(), bytes)?.rows;
     let var = rows.add(Row::Term(TermRow::Var(0)))?;
     let one = rows.add(Row::Subst(SubRow::Shift(1)))?;
     let instance = Row::Term(TermRow::Instance(TermId(var), SubId(one)));
     assert!(rt; rows.fits(&instance));
-    let weakened = rows.add(instance)?;
-    let next = rows.add(Row::Term(TermRow::Var(1)))?;
-    assert_eq!(rt; weakened, next);
+    let weakened = rows.instance(var, one)?;
+    assert_eq!(rt; weakened, rows.var(1)?);
     Ok(())
 }

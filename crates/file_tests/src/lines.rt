@@ -35,14 +35,6 @@ const FILE: [(&str, &str); 26] = [
     ("c face 24 4", "CtxFace(24, 4)"),
 ];
 
-/// A row, or the answer where there is none, as the derived `Debug` has it.
-fn shown(alloc: Global, answer: &Next) -> Result<String, AllocError> {
-    match answer {
-        Next::Row(row) => Ok(format!(in alloc; "{row:?}")?),
-        answer => Ok(format!(in alloc; "{answer:?}")?),
-    }
-}
-
 #[test]
 fn reads_and_writes_rows(rt: HostRuntime) -> Result<(), Fail> {
     let alloc = rt.alloc();
@@ -54,15 +46,21 @@ fn reads_and_writes_rows(rt: HostRuntime) -> Result<(), Fail> {
     let mut written: Vec<u8> = Vec::new(alloc);
     let mut reader = RowReader::new(&bytes);
     for (line, want) in FILE {
-        let answer = reader.next(alloc)?;
-        assert_eq!(rt; shown(alloc, &answer)?.as_str(), want, "at {line}");
-        if let Next::Row(row) = &answer {
-            write_row(row, &mut written)?;
+        match reader.next(alloc)? {
+            Next::Row(row) => {
+                assert_eq!(rt; format!(in alloc; "{row:?}")?.as_str(), want, "at {line}");
+                write_row(&row, &mut written)?;
+            }
+            answer => assert_eq!(rt;
+                format!(in alloc; "{answer:?}")?.as_str(),
+                want,
+                "at {line}"
+            ),
         }
     }
     for _ in 0..2 {
         let end = reader.next(alloc)?;
-        assert_eq!(rt; shown(alloc, &end)?.as_str(), "End");
+        assert_eq!(rt; format!(in alloc; "{end:?}")?.as_str(), "End");
     }
     assert_eq!(rt; written.as_slice(), bytes.as_slice());
     Ok(())
