@@ -55,6 +55,7 @@ pub enum Text {
 }
 
 /// The next state.
+#[inline(always)]
 fn next(alloc: Global, parser: Parser, token: Token) -> Result<Parser, Stop>
     ensures { Gives view result
         (on token (step (top_of parser.top) parser.past (stack_of parser.stack.items))) }
@@ -119,6 +120,7 @@ fn finished(alloc: Global, parser: Parser) -> Result<Text, Stop>
 }
 
 /// The next state, or the fault at this token.
+#[inline(always)]
 fn step_at(alloc: Global, parser: Parser, token: Token) -> Result<Parser, ReadFault>
     ensures { Steps token.start result (and_step (Some (view parser)) (piece_of token)) }
 {
@@ -144,6 +146,7 @@ fn end_at(alloc: Global, parser: Parser, at: u32) -> Result<Text, ReadFault>
     }
 }
 
+#[inline(always)]
 fn is_refused(kind: Kind) -> bool
     ensures { result ≡ refuses (word_of kind) }
 {

@@ -23,6 +23,7 @@ use std::alloc::Global;
 use syntax::Teles;
 
 /// After names or teles.
+#[inline(never)]
 pub fn names(
     alloc: Global,
     names: Names,

@@ -39,6 +39,7 @@ use syntax::{Defs, Module, Teles};
 pub const LIMIT: u32 = 512;
 
 /// At the beginning of a module.
+#[inline(never)]
 pub fn heading(
     alloc: Global,
     heading: Heading,
@@ -87,6 +88,7 @@ fn headed(heading: Heading, past: Past, stack: Vec<Frame>, token: Token) -> Pars
 }
 
 /// Among the items of a module.
+#[inline(never)]
 pub fn items(
     alloc: Global,
     items: Items,
@@ -105,6 +107,7 @@ pub fn items(
 }
 
 /// In a block.
+#[inline(never)]
 pub fn block(
     alloc: Global,
     block: Block,

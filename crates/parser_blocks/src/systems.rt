@@ -22,6 +22,7 @@ use std::alloc::{AllocError, Global};
 use syntax::{End, Equation, Equations, Sides};
 
 /// In a system.
+#[inline(never)]
 pub fn system(
     alloc: Global,
     system: System,

@@ -60,6 +60,7 @@ use std::alloc::{AllocError, Global};
 use syntax::{Element, Elements, Exp, Exps, Formula, Projection, Projections, Sides, Teles};
 
 /// The start of an expression with its projections.
+#[inline(always)]
 pub fn exp5(
     alloc: Global,
     slot: Slot,
@@ -116,6 +117,7 @@ pub fn exp5(
 }
 
 /// A word that begins a form.
+#[inline(always)]
 fn form(word: FormWord, place: Place, past: Past, stack: Vec<Frame>, token: Token) -> Parser
     ensures { view result
         ≡ record {
@@ -133,6 +135,7 @@ fn form(word: FormWord, place: Place, past: Past, stack: Vec<Frame>, token: Toke
 }
 
 /// The start of an expression in an application.
+#[inline(always)]
 pub fn exp3(
     alloc: Global,
     place: Place,
@@ -150,6 +153,7 @@ pub fn exp3(
 }
 
 /// The start of an expression that is no `let`, no lambda and no path.
+#[inline(always)]
 pub fn exp1(
     alloc: Global,
     room: u32,
@@ -203,6 +207,7 @@ pub fn exp(
 }
 
 /// The application in which the expression was put.
+#[inline(always)]
 pub fn put(alloc: Global, place: Place, exp: Exp) -> Result<Box<Spine>, AllocError>
     ensures after { IfOk result (λ x.
         spine_of x.value ≡ place_after (place_of place) (tree_of exp)) }
@@ -225,6 +230,7 @@ pub fn put(alloc: Global, place: Place, exp: Exp) -> Result<Box<Spine>, AllocErr
 }
 
 /// The application with one element more, in the same box.
+#[inline(always)]
 fn with_element(mut spine: Box<Spine>, element: Element) -> Result<Box<Spine>, AllocError>
     ensures { IfOk result (λ x.
         spine_of x.value ≡ place_after (spine_of spine.value) (element_of element)) }
@@ -236,6 +242,7 @@ fn with_element(mut spine: Box<Spine>, element: Element) -> Result<Box<Spine>, A
 }
 
 /// Puts `@` with its formula after the elements.
+#[inline(always)]
 pub fn put_at(spine: Box<Spine>, at: Span, formula: Formula) -> Result<Box<Spine>, AllocError>
     ensures { IfOk result (λ x.
         spined_of x.value ≡ put_in (spine_of spine.value) (an_at at (formula_of formula))) }
@@ -244,6 +251,7 @@ pub fn put_at(spine: Box<Spine>, at: Span, formula: Formula) -> Result<Box<Spine
 }
 
 /// Puts an expression with its projections into its place.
+#[inline(always)]
 pub fn give(alloc: Global, slot: Slot, exp: Exp, past: Past) -> Result<Given, AllocError>
     ensures { IfOk result (λ x. given_of x ≡ give_to (slot_of slot) (tree_of exp) past) }
 {
@@ -313,6 +321,7 @@ fn glued(
 }
 
 /// Puts the form that a system ends into its place.
+#[inline(never)]
 pub fn owned(
     alloc: Global,
     owner: Owner,
@@ -348,6 +357,7 @@ pub fn owned(
 }
 
 /// An application, or its head alone.
+#[inline(always)]
 pub fn applied(alloc: Global, spine: Box<Spine>, past: Past) -> Result<Exp, AllocError>
     ensures { IfOk result (λ e. tree_of e ≡ applied_to (from_start spine.value.start past)
         (tree_of spine.value.head) (elements_of spine.value.elements)) }
@@ -366,6 +376,7 @@ pub fn applied(alloc: Global, spine: Box<Spine>, past: Past) -> Result<Exp, Allo
 }
 
 /// After an expression of an application.
+#[inline(always)]
 pub fn spined(
     alloc: Global,
     spine: Box<Spine>,
@@ -425,6 +436,7 @@ fn system(owner: Owner, past: Past, stack: Vec<Frame>, token: Token) -> Result<P
 }
 
 /// After a part that was put into its place.
+#[inline(always)]
 pub fn given(
     alloc: Global,
     parts: Given,
@@ -443,6 +455,7 @@ pub fn given(
 }
 
 /// An expression with its projections, or the expression alone.
+#[inline(always)]
 pub fn with_projections(
     alloc: Global,
     start: u32,
@@ -460,6 +473,7 @@ pub fn with_projections(
 }
 
 /// The projection that a token is.
+#[inline(always)]
 fn projection(token: Token) -> Option<Projection>
     ensures { IsProjection (word_of token.kind) (span_of token.start token.end) result }
 {
@@ -470,6 +484,7 @@ fn projection(token: Token) -> Option<Projection>
     }
 }
 
+#[inline(always)]
 fn with_projection(
     mut projections: Projections,
     projection: Projection,
@@ -481,6 +496,7 @@ fn with_projection(
 }
 
 /// After an expression with some projections.
+#[inline(always)]
 pub fn projected(
     alloc: Global,
     slot: Slot,
@@ -545,6 +561,7 @@ pub fn opened(
 }
 
 /// After names in a bracket, of a tele or of an application.
+#[inline(never)]
 pub fn maybe(
     alloc: Global,
     room: u32,

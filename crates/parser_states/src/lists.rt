@@ -31,6 +31,7 @@ use std::alloc::AllocError;
 use syntax::{Def, Defs, Element, Elements, Exp, Exps, Formula, Side, Sides, Tele, Teles};
 
 /// The piece of a token.
+#[inline(always)]
 pub fn span(token: Token) -> Span
     ensures { result ≡ piece_span token.start token.end }
 {
@@ -41,6 +42,7 @@ pub fn span(token: Token) -> Span
 }
 
 /// From a start to the last token.
+#[inline(always)]
 pub fn spanned(start: u32, past: Past) -> Span
     ensures { result ≡ from start past }
 {
@@ -51,6 +53,7 @@ pub fn spanned(start: u32, past: Past) -> Span
 }
 
 /// An expression that stands at this room.
+#[inline(always)]
 pub fn shallow(room: u32, exp: Exp) -> Exp
     ensures { tree_of result ≡ shallow_tree room (tree_of exp) }
 {
@@ -64,6 +67,7 @@ pub fn shallow(room: u32, exp: Exp) -> Exp
 }
 
 /// A formula that stands at this room.
+#[inline(always)]
 pub fn shallow_formula(room: u32, formula: Formula) -> Formula
     ensures { formula_of result ≡ shallow_formula_tree room (formula_of formula) }
 {
@@ -75,6 +79,7 @@ pub fn shallow_formula(room: u32, formula: Formula) -> Formula
 }
 
 /// The list with one expression more, which stands at this room.
+#[inline(always)]
 pub fn keep_exp(mut exps: Exps, room: u32, exp: Exp) -> Result<Exps, AllocError>
     ensures { IfOk result (λ xs. exps_of xs ≡ keep_last room (exps_of exps) (tree_of exp)) }
 {
@@ -86,6 +91,7 @@ pub fn keep_exp(mut exps: Exps, room: u32, exp: Exp) -> Result<Exps, AllocError>
 }
 
 /// Appends an element that stands at this room. Without memory the list is as before.
+#[inline(always)]
 pub fn keep_element(elements: &mut Elements, room: u32, element: Element) -> Result<(), AllocError>
     ensures ok { OnOk result (elements_of elements.new
         ≡ keep_last room (elements_of elements.old) (element_of element)) }
@@ -132,6 +138,7 @@ pub fn keep_def(mut defs: Defs, room: u32, def: Def) -> Result<Defs, AllocError>
 }
 
 /// The names with one more.
+#[inline(always)]
 pub fn with_name(mut names: Spans, token: Token) -> Result<Spans, AllocError>
     ensures { IfOk result (λ ns. ns ≡ names ++ piece_span token.start token.end ∷ []) }
 {
@@ -140,6 +147,7 @@ pub fn with_name(mut names: Spans, token: Token) -> Result<Spans, AllocError>
 }
 
 /// The stack with one frame more.
+#[inline(always)]
 pub fn under(mut stack: Vec<Frame>, frame: Frame) -> Result<Vec<Frame>, AllocError>
     ensures { IfOk result (λ v. stack_of v.items ≡ frame_of frame ∷ stack_of stack.items) }
 {
@@ -148,6 +156,7 @@ pub fn under(mut stack: Vec<Frame>, frame: Frame) -> Result<Vec<Frame>, AllocErr
 }
 
 /// The frames of a formula with one more.
+#[inline(always)]
 pub fn inside(mut frames: Vec<Inner>, frame: Inner) -> Result<Vec<Inner>, AllocError>
     ensures { IfOk result (λ v. inners_of v.items ≡ inner_of frame ∷ inners_of frames.items) }
 {

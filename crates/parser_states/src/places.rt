@@ -13,6 +13,7 @@ use std::alloc::{AllocError, Global};
 
 impl Place {
     /// The room of the expression.
+    #[inline(always)]
     pub fn room(&self) -> u32
         ensures { result ≡ room_of (place_of self.now) }
     {
@@ -25,6 +26,7 @@ impl Place {
 
 impl Slot {
     /// The room of the form.
+    #[inline(always)]
     pub fn room(&self) -> u32
         ensures { result ≡ room_of (place_under (slot_of self.now)) }
     {
@@ -37,6 +39,7 @@ impl Slot {
     }
 
     /// The slot in few bytes.
+    #[inline(always)]
     pub fn hold(self, alloc: Global) -> Result<HeldSlot, AllocError>
         ensures { IfOk result (λ held. held_of held ≡ slot_of self) }
     {
@@ -49,6 +52,7 @@ impl Slot {
 
 impl HeldSlot {
     /// The slot that is held.
+    #[inline(always)]
     pub fn slot(self) -> Slot
         ensures { slot_of result ≡ held_of self }
     {
@@ -61,6 +65,7 @@ impl HeldSlot {
 
 impl Owner {
     /// The room of the form.
+    #[inline(always)]
     pub fn room(&self) -> u32
         ensures { result ≡ room_of_owner (owner_of self.now) }
     {

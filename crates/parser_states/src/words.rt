@@ -36,6 +36,7 @@ pub enum FormWord {
 }
 
 /// The form that begins with a token.
+#[inline(always)]
 pub fn form_word(kind: Kind) -> Option<FormWord>
     ensures { IsFormWord (word_of kind) result }
 {

@@ -14,6 +14,7 @@ pub struct Past {
 }
 
 /// The first place that is too deep, where something begins at `start` that has this room.
+#[inline(always)]
 pub fn note(room: u32, start: u32, deep: Option<u32>) -> Option<u32>
     ensures { result ≡ notes room start deep }
 {
@@ -25,6 +26,7 @@ pub fn note(room: u32, start: u32, deep: Option<u32>) -> Option<u32>
 
 impl Past {
     /// After a token that begins something of this room.
+    #[inline(always)]
     pub fn begin(self, room: u32, token: Token) -> Past
         ensures { result ≡ begins room token.start token.end self }
     {
@@ -35,6 +37,7 @@ impl Past {
     }
 
     /// After a token that begins nothing.
+    #[inline(always)]
     pub fn skip(self, token: Token) -> Past
         ensures { result ≡ skips token.end self }
     {
