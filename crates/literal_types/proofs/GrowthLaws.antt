@@ -1,12 +1,13 @@
 -- What was said of a book is said of those that extend it.
-use Rattle.std.proofs.Common.{◌≡◌, sym, subst}
+use Rattle.std.proofs.Common.{◌≡◌, ℕ, Some, IsTrue, refl, sym, subst}
 use Rattle.trees.specs.Things.{ATree}
 use Rattle.trees.specs.Trees.{Tree, Subst, apply, then, up}
-use Rattle.trees.specs.Judgements.{Context, WithVar, WithName}
+use Rattle.trees.specs.Judgements.{Context, WithVar, WithName, WithFace}
 use Rattle.substitution.proofs.ThenLaws.{apply-then}
 use Rattle.trees.specs.Language.{Sb, Ty}
+use Rattle.conditions.specs.Sides.{is_face}
 use Rattle.book.specs.Contents.{Contents}
-use Rattle.book.specs.Shown.{Extends}
+use Rattle.book.specs.Shown.{Extends, book_means}
 use Rattle.book.specs.declared.kernel.NodeId.{NodeId}
 use Rattle.typed_nodes.specs.Typed.{Says}
 use Rattle.literal_types.specs.declared.entries.Entry.{Entry}
@@ -45,3 +46,12 @@ pub past_the_name : (b new : Contents) (node : NodeId) (x : Entry) (K M G : Cont
 past_the_name b new node x K M G d is said =
     subst (λ y. IsEntry b y K M → (e : Subst) × Says new node (Sb M e G) × ((A : Tree) → apply A e ≡ past_entry y (apply A d))) (sym is)
     (λ m. (then d up, subst (λ L. Says new node (Sb L (then d up) G)) (sym m) said, λ T. apply-then T d up))
+
+pub past_the_face : (b new : Contents) (node : NodeId) (row : ℕ) (x : Entry) (K M G : Context) (d : Subst) → x ≡ entry.Face row → ((p : Tree) → book_means b row ≡ Some (ATree p) → IsTrue (is_face K p) → Says new node (Sb (WithFace K p) d G)) → IsEntry b x K M → (e : Subst) × Says new node (Sb M e G) × ((A : Tree) → apply A e ≡ past_entry x (apply A d))
+past_the_face b new node row x K M G d is said =
+    subst (λ y. IsEntry b y K M → (e : Subst) × Says new node (Sb M e G) × ((A : Tree) → apply A e ≡ past_entry y (apply A d))) (sym is)
+    (λ (p, means, face, m). (d, subst (λ L. Says new node (Sb L d G)) (sym m) (said p means face), λ A. refl))
+
+-- the type of an entry that is a variable
+pub variable_entry : (b : Contents) (ty : NodeId) (x : Entry) (K M : Context) → x ≡ entry.Variable ty → IsEntry b x K M → (A : Tree) × Says b ty (Ty K A)
+variable_entry b ty x K M is e = let t = subst (λ y. IsEntry b y K M) is e in (t.0, t.1)
