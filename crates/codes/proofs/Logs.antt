@@ -1,10 +1,9 @@
 -- What is translated, one text after another.
-use Rattle.std.proofs.Common.{◌≡◌, ◌+◌, ◌<◌, ◌&&◌, ◌||◌, ◌==◌, ℕ, zero, suc, Bool, true, false, List, [], ◌∷◌, ◌++◌, map, length, Option, Some, None, refl, sym, ap, ◌∙◌, arith, append_assoc, nat_lt, if◌then◌else◌}
+use Rattle.std.proofs.Common.{◌≡◌, ◌+◌, ◌&&◌, ◌||◌, ◌==◌, ℕ, Bool, true, false, List, [], ◌∷◌, ◌++◌, map, length, Option, Some, None, refl, sym, ap, ◌∙◌, arith, append_assoc, nat_lt, if◌then◌else◌}
 use Rattle.std.proofs.lemmas.Bool.Decides.{nat_tests}
 use Rattle.trees.specs.Language.{Ty, Tm}
 use Rattle.translation.specs.declared.fault.Refusal.{Refusal}
-use Rattle.translation.specs.declared.fault.Cause.{Cause}
-use Rattle.translation.specs.Translated.{Translated, Stated, done, ◌>>=◌, with, judgements_of, earlier, is_before, rank_of}
+use Rattle.translation.specs.Translated.{Translated, Stated, done, ◌>>=◌, judgements_of, earlier, is_before, rank_of}
 
 pub append_empty : {A : Type 0} (xs : List A) → xs ++ [] ≡ xs
 append_empty [] = refl

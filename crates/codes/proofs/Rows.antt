@@ -1,5 +1,5 @@
 -- A row in a code is the list that it was made of.
-use Rattle.std.proofs.Common.{◌≡◌, ℕ, List, [], ◌∷◌, map, Vec, Global, Box, refl, sym, ap, ◌∙◌}
+use Rattle.std.proofs.Common.{◌≡◌, ℕ, ◌∷◌, map, Vec, Global, Box, refl, ap, ◌∙◌}
 use mathlib.Core.Former.{Count}
 use Rattle.layout_lexer.specs.declared.token.Span.{Span}
 use Rattle.translation.specs.Forms.{after, under, application, tuple, composition, fill, glue_of_types, glue_of_terms, unglued, define, defined}

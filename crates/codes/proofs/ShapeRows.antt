@@ -1,6 +1,5 @@
 -- The shape of a row in a code is that of the list that it was made of.
 use Rattle.std.proofs.Common.{◌≡◌, ◌==◌, ℕ, true, false, length, List, [], ◌∷◌, Vec, Global, Box, refl, sym, ap, ◌∙◌}
-use mathlib.Core.Former.{Count}
 use Rattle.layout_lexer.specs.declared.token.Span.{Span}
 use Rattle.codes.specs.declared.code.Code.{Code, Let as Let_, Pi as Pi_, Sigma as Sigma_, Lambda as Lambda_, Apply as Apply_, Tuple as Tuple_, Comp as Comp_, Fill as Fill_, GlueType as GlueType_, GlueTerm as GlueTerm_, Unglue as Unglue_, Row_of-CodeDef, end_of-CodeDef, more_of-CodeDef, items-the_row-CodeDef, Row_of-Binder, end_of-Binder, more_of-Binder, items-the_row-Binder, Row_of-Element, end_of-Element, more_of-Element, items-the_row-Element, Row_of-Code, end_of-Code, more_of-Code, items-the_row-Code, Row_of-LineSide, end_of-LineSide, more_of-LineSide, items-the_row-LineSide, Row_of-PairSide, end_of-PairSide, more_of-PairSide, items-the_row-PairSide, Row_of-Side, end_of-Side, more_of-Side, items-the_row-Side, items_hidden-the_row-Binder-1, items_hidden-the_row-Code-3, items_hidden-the_row-CodeDef-0, items_hidden-the_row-Element-2, items_hidden-the_row-LineSide-4, items_hidden-the_row-PairSide-5, items_hidden-the_row-Side-6}
 use Rattle.codes.specs.declared.code.Binder.{Binder as BinderOf}
@@ -10,7 +9,7 @@ use Rattle.codes.specs.declared.code.Side.{Side as SideOf}
 use Rattle.codes.specs.declared.code.LineSide.{LineSide}
 use Rattle.codes.specs.declared.code.PairSide.{PairSide as PairSideOf}
 use Rattle.codes.specs.declared.code.CodeDef.{CodeDef, roll-CodeDef}
-use Rattle.codes.specs.Shapes.{Shape, Shapes, On, Let, Pi, Sigma, Lambda, Apply, Tuple, Comp, Fill, GlueType, GlueTerm, Unglue, Binder, Side, PairSide, Def, none, more, shape, opened_shape, component_shapes, binder_shapes, element_shape, element_shapes, term_side_shapes, line_side_shapes, pair_side_shapes, def_shape, local_shapes, listed, of_binder, of_side, of_line_side, of_pair_side, lambda, apply}
+use Rattle.codes.specs.Shapes.{Shape, On, Let, Pi, Sigma, Lambda, Apply, Tuple, Comp, Fill, GlueType, GlueTerm, Unglue, Binder, Side, PairSide, Def, more, shape, opened_shape, component_shapes, binder_shapes, element_shape, element_shapes, term_side_shapes, line_side_shapes, pair_side_shapes, def_shape, local_shapes, listed, of_binder, of_side, of_line_side, of_pair_side, lambda, apply}
 use Rattle.codes.proofs.Rows.{row_of-CodeDef, row_of-Binder, row_of-Element, row_of-Code, row_of-LineSide, row_of-PairSide, row_of-Side, row_under}
 
 locals_listed : (n : _) (row : Row_of-CodeDef n) → local_shapes row ≡ listed def_shape (items-the_row-CodeDef n row)

@@ -24,8 +24,8 @@ use Rattle.codes.specs.declared.code.LineSide.{LineSide}
 use Rattle.codes.specs.declared.code.PairSide.{PairSide}
 use Rattle.translation.specs.Terms.{i0, i1, neg, min, max, universe, nat, zero, suc, natrec}
 use Rattle.translation.specs.Terms.{pi, sig, lam, lifted}
-use Rattle.translation.specs.Scopes.{Entry, Variable, Interval, Face, Definition, Scope}
-use Rattle.translation.specs.Translated.{Translated, done, ◌>>=◌, ◌>>◌}
+use Rattle.translation.specs.Scopes.{Variable, Interval, Face, Definition, Scope}
+use Rattle.translation.specs.Translated.{done, ◌>>=◌, ◌>>◌}
 use Rattle.translation.specs.Forms.{Means, Binder, Element as ElementOf, Argument, At, Side}
 use Rattle.translation.specs.Forms.{one, two, under, under_names, project, tuple, path_type}
 use Rattle.translation.specs.Forms.{applied_to_name, applied_to_variable, application}

@@ -1,6 +1,5 @@
 -- Which rows the words of a line may be, by the first word.
-use Rattle.std.specs.List.{All}
-use Rattle.std.proofs.Common.{◌≡◌, ℕ, ◌<◌, ◌≤◌, ◌^◌, Bool, true, false, ◌&&◌, None, List, [], ◌∷◌, ◌++◌, length, map, drop, codes, refl, sym, ◌∙◌, ap, decimal}
+use Rattle.std.proofs.Common.{◌≡◌, ℕ, ◌≤◌, Bool, true, false, ◌&&◌, List, [], ◌∷◌, ◌++◌, length, map, drop, codes, refl, sym, ◌∙◌, ap, decimal}
 use Rattle.std.specs.Str.{bytes_eq}
 use Rattle.std.proofs.lemmas.Bool.{false≢true}
 use Rattle.std.proofs.lemmas.List.{append-nil, drop_at, length-map}
@@ -9,11 +8,10 @@ use Rattle.theory.specs.RuleNames.{name_of as rule_name, kinds_of, premises_of}
 use Rattle.trees.specs.declared.op.Op.{Op}
 use Rattle.theory.specs.declared.rule.RuleName.{RuleName}
 use Rattle.deriv_file.specs.declared.row.Row.{Row}
-use Rattle.deriv_file.specs.declared.row.Row.TheVariants.{Header, Var, Make, Instance, Shift, Push, CtxNil, CtxVar, CtxName, CtxFace, Node, Root}
+use Rattle.deriv_file.specs.declared.row.Row.TheVariants.{Header, Var, Make, Node, Root}
 use Rattle.trees.specs.declared.op.Op.TheVariants.{I0}
-use Rattle.trees.specs.Trees.{greatest_shift}
-use Rattle.deriv_file.specs.Spelling.{words_of, Earlier, MayStand, newest}
-use Rattle.deriv_file.specs.Words.{BeginWith, Reads}
+use Rattle.deriv_file.specs.Spelling.{words_of, MayStand, newest}
+use Rattle.deriv_file.specs.Words.{BeginWith}
 use Rattle.theory.proofs.Names.{same_operator, same_rule}
 
 -- whether the first words are these

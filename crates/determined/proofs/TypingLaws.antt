@@ -12,7 +12,7 @@ use Rattle.codes.specs.declared.code.CodeDef.{CodeDef, CodeDef'}
 use Rattle.codes.specs.Codes.{meaning}
 use Rattle.codes.specs.Shapes
 use Rattle.codes.specs.Shapes.{Shape, none, more, Bound, Defined, Universe, Nat, Zero, Let, Suc, NatRec, Pi, Sigma, Lambda, PathLambda, Apply, Project}
-use Rattle.codes.specs.Shapes.{Tuple, PathP, Comp, Fill, Transport, GlueType, GlueTerm, Unglue, At, Binder, Under, Applied, Def}
+use Rattle.codes.specs.Shapes.{Tuple, PathP, Comp, Transport, At, Binder, Under, Applied, Def}
 use Rattle.codes.specs.Shapes.{shape, opened_shape, component_shapes, binder_shapes, element_shapes, def_shape, local_shapes, listed}
 use Rattle.translation.specs.Terms.{nat, universe}
 use Rattle.translation.specs.Translated.{done}

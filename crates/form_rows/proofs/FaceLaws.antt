@@ -1,10 +1,9 @@
 -- Faces, made from the first equation to the last.
-use Rattle.std.proofs.Common.{◌≡◌, ◌<◌, ◌≤◌, ◌+◌, ℕ, List, [], ◌∷◌, ◌++◌, map, length, get_or, take, refl, sym, ap, ◌∙◌, subst, arith}
-use Rattle.trees.specs.Trees.{Tree}
+use Rattle.std.proofs.Common.{◌≡◌, ◌<◌, ◌≤◌, ◌+◌, ℕ, List, [], ◌∷◌, ◌++◌, map, length, get_or, take, refl, sym, ap, subst}
 use Rattle.trees.specs.Things.{Meanings, Kept}
 use Rattle.trees.proofs.Meanings.{kept-same}
 use Rattle.codes.specs.declared.formula.Equation.{Equation}
-use Rattle.form_rows.specs.Meant.{Is, Are, AreTrees}
+use Rattle.form_rows.specs.Meant.{Is, Are}
 use Rattle.form_rows.specs.Formulas.{equation_tree}
 use Rattle.form_rows.proofs.RowLaws.{kept_then, are_kept, are_none, are_push, take_next, take_whole}
 

@@ -3,7 +3,7 @@ use Rattle.std.proofs.Common.{◌≡◌, ℕ, [], ◌∷◌, Some, IsSome, refl,
 use Rattle.std.specs.Prelude.{option_and_then}
 use Rattle.trees.specs.declared.op.Op.TheVariants as op
 use Rattle.trees.specs.Things.{Meanings, Kept, ASubst, both, instance_of, meanings, made}
-use Rattle.trees.specs.Trees.{Tree, Subst, Var, apply, apply_under, push, up, shift_by, then}
+use Rattle.trees.specs.Trees.{Tree, Subst, Var, apply, push, up, shift_by}
 use Rattle.trees.specs.Judgements.{trees}
 use Rattle.substitution.specs.Forms.{lift}
 use Rattle.substitution.proofs.ThenLaws.{apply-apply, shift_by-then-shift_by}

@@ -1,14 +1,14 @@
 -- Operators that nest, made from the last row to the first.
-use Rattle.std.proofs.Common.{◌≡◌, ◌<◌, ◌≤◌, ◌+◌, ◌-◌, ℕ, zero, suc, List, [], ◌∷◌, length, get_or, take, drop, Some, IsSome, refl, sym, ap, ◌∙◌, subst, arith}
+use Rattle.std.proofs.Common.{◌≡◌, ◌<◌, ◌≤◌, ◌+◌, ◌-◌, ℕ, zero, suc, List, [], ◌∷◌, length, get_or, take, drop, IsSome, refl, sym, ap, subst, arith}
 use Rattle.std.specs.Prelude.{option_and_then}
 use Rattle.trees.specs.declared.op.Op.{Op}
 use Rattle.trees.specs.Operators.{kids_of}
 use Rattle.trees.specs.Trees.{Tree, Var, Make, trees_of}
-use Rattle.trees.specs.Things.{ATree, Meanings, Kept, meanings, made}
+use Rattle.trees.specs.Things.{Meanings, Kept, meanings, made}
 use Rattle.rows.specs.Views.{IsTree}
 use Rattle.trees.proofs.Meanings.{kept-same}
 use Rattle.form_rows.specs.Meant.{Is, Are, AreTrees, nest, nest_all}
-use Rattle.form_rows.proofs.RowLaws.{kept_then, is_kept, tree_kept, are_kept, are_at, are_two, are_length, is_made, tree_of_is, tree_at, is_of, drop_next, drop_whole, two_fit, are_none, first_are}
+use Rattle.form_rows.proofs.RowLaws.{kept_then, is_kept, tree_kept, are_at, are_two, are_length, is_made, tree_of_is, tree_at, is_of, drop_next, drop_whole, two_fit, are_none, first_are}
 
 -- the rows from `at` on are nested
 pub record Nested (f g : Meanings) (op : Op) (rows : List ℕ) (last at row : ℕ) : Type 0 where

@@ -1,11 +1,11 @@
 -- What rows mean that mean trees.
-use Rattle.std.proofs.Common.{◌≡◌, ◌==◌, ◌<◌, ◌≤◌, ◌+◌, ℕ, zero, suc, Bool, true, List, [], ◌∷◌, ◌++◌, map, length, get_or, take, drop, Option, Some, None, IsSome, refl, sym, ap, ap₂, ◌∙◌, subst, arith}
+use Rattle.std.proofs.Common.{◌≡◌, ◌==◌, ◌<◌, ◌≤◌, ◌+◌, ℕ, zero, suc, true, List, [], ◌∷◌, ◌++◌, map, length, get_or, take, drop, Option, Some, IsSome, refl, sym, ap, ap₂, ◌∙◌, arith}
 use Rattle.std.specs.Prelude.{option_and_then}
 use Rattle.std.proofs.lemmas.List.{take_all}
 use Rattle.trees.specs.declared.op.Op.{Op}
 use Rattle.trees.specs.Operators.{kids_of}
-use Rattle.trees.specs.Trees.{Tree, Subst, Var, Make, trees_of, apply, shift_by}
-use Rattle.trees.specs.Things.{Thing, ATree, ASubst, Meanings, Kept, both, consed, meanings, made, only_trees, instance_of}
+use Rattle.trees.specs.Trees.{Tree, Var, Make, trees_of, apply, shift_by}
+use Rattle.trees.specs.Things.{ATree, Meanings, Kept, both, consed, meanings, made, only_trees}
 use Rattle.trees.proofs.Meanings.{meanings-cons, meanings-kept, meanings-push, kept-kept}
 use Rattle.substitution.proofs.ThenLaws.{apply-id}
 use Rattle.rows.specs.Views.{IsTree}

@@ -1,20 +1,20 @@
 -- Systems, made from the last side to the first; and rows that are made one by one.
-use Rattle.std.proofs.Common.{◌≡◌, ◌<◌, ◌≤◌, ◌+◌, ◌-◌, ℕ, zero, suc, List, [], ◌∷◌, ◌++◌, map, length, get_or, take, drop, Option, Some, IsSome, refl, sym, ap, ◌∙◌, subst, arith}
+use Rattle.std.proofs.Common.{◌≡◌, ◌<◌, ◌≤◌, ◌+◌, ◌-◌, ℕ, zero, suc, List, [], ◌∷◌, ◌++◌, map, length, get_or, take, drop, Option, IsSome, refl, sym, ap, ◌∙◌, subst, arith}
 use Rattle.std.specs.Prelude.{option_and_then}
 use Rattle.syntax.specs.declared.formula.Projection.{Projection}
 use Rattle.syntax.specs.declared.formula.Projection.TheVariants as projection
 use Rattle.trees.specs.declared.op.Op.{Op}
 use Rattle.trees.specs.declared.op.Op.TheVariants as op
 use Rattle.trees.specs.Operators.{kids_of}
-use Rattle.trees.specs.Trees.{Tree, Var, Make, trees_of, apply, up, shift_by}
-use Rattle.trees.specs.Things.{Thing, ATree, Meanings, Kept, meanings, made}
+use Rattle.trees.specs.Trees.{Tree, Var, Make, trees_of, apply, shift_by}
+use Rattle.trees.specs.Things.{Thing, Meanings, Kept, meanings, made}
 use Rattle.rows.specs.Views.{IsTree}
 use Rattle.trees.proofs.Meanings.{kept-same}
-use Rattle.translation.specs.Terms.{lifted, plam, fst, snd}
+use Rattle.translation.specs.Terms.{lifted}
 use Rattle.translation.specs.Forms.{project}
-use Rattle.form_rows.specs.Meant.{Is, Are, AreTrees, nest, nest_all}
+use Rattle.form_rows.specs.Meant.{Is, Are, AreTrees}
 use Rattle.form_rows.specs.Systems.{cover_of, body_of, path_lambdas, taken_by}
-use Rattle.form_rows.proofs.RowLaws.{kept_then, is_kept, tree_kept, are_kept, are_at, are_none, are_one, are_two, are_four, are_push, are_length, is_made, may_make, tree_of_is, tree_at, is_of, drop_next, drop_whole, take_next, take_whole, two_fit, four_fit, one_fits}
+use Rattle.form_rows.proofs.RowLaws.{kept_then, is_kept, tree_kept, are_kept, are_at, are_none, are_one, are_two, are_four, are_push, are_length, is_made, tree_of_is, tree_at, is_of, drop_next, drop_whole, take_next, take_whole, two_fit, four_fit}
 
 -- the sides from `at` on
 pub record Sided (f g : Meanings) (faces values : List ℕ) (at others row : ℕ) : Type 0 where

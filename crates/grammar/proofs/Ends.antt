@@ -1,19 +1,17 @@
 -- What the parser's end and its faults say of the tokens.
-use Rattle.std.proofs.Common.{ℕ, ◌≡◌, ◌<◌, ◌≤◌, ◌+◌, List, [], ◌∷◌, ◌++◌, length, take, drop, Option, Some, None, Bool, true, false, Result, Ok, Err, refl, sym, ap, subst, ◌∙◌, get_or, map, arith, append_assoc}
+use Rattle.std.proofs.Common.{ℕ, ◌≡◌, ◌<◌, ◌+◌, List, [], ◌∷◌, ◌++◌, length, take, drop, Option, Some, None, true, false, Result, Ok, Err, refl, sym, ap, subst, ◌∙◌, get_or, arith, append_assoc}
 use Rattle.std.proofs.lemmas.List.{take_more, length-map, take-append-drop}
 use Rattle.std.proofs.Math.ListN.{get_or-map}
 use Rattle.layout_lexer.specs.declared.token.Token.{Token}
-use Rattle.syntax.specs.Tree.{Tree, Let, Module, Trees, none, more}
+use Rattle.syntax.specs.Tree.{Tree, Module, none, more}
 use Rattle.syntax.specs.View.{tree_of, module_of}
 use Rattle.syntax.specs.declared.exp.Module.{Module as ModuleOf}
 use Rattle.syntax.specs.declared.exp.Exp.{Exp, Let', Lambda', PathLambda', Pi', Sigma', Arrow', Apply', PathP', Comp', Fill', Transport', GlueType', GlueTerm', Unglue', Project', Universe, Name, Brackets'}
 use Rattle.productions.specs.Words.{Word, Refused, Piece, piece, pieces, piece_of, word_of, Composed, Filled, GluedType, GluedTerm, Unglued}
-use Rattle.productions.specs.Grammar.{IsBegun, IsWrongAt, wrong_token, wrong_end, IsModule, empty_module, items, IsWholeExp, whole_exp, IsExp, let_in, lambda, path_lambda, exp1, IsExp1, pi, sigma, arrow, exp2, IsExp2, apply, IsExp3, path_type, comp_or_fill, transport, glue, exp4, IsExp4, project, IsExp5, universe, name, brackets, applied, projected, no_projection, next_projection}
-use Rattle.productions.specs.Machine.{State, finish, run, and_step, start_module, start_exp}
-use Rattle.parser_states.specs.View.{view}
-use Rattle.grammar.specs.Faults.{refuses, first_refused, IsRead, IsTooDeep, IsFault, text_of, Reaches, StopsAt, at_token, at_end, Outcome, Ends, Steps}
+use Rattle.productions.specs.Grammar.{IsWrongAt, wrong_token, wrong_end, IsModule, empty_module, items, IsWholeExp, whole_exp, let_in, lambda, path_lambda, exp1, IsExp1, pi, sigma, arrow, exp2, IsExp2, apply, IsExp3, path_type, comp_or_fill, transport, glue, exp4, IsExp4, project, universe, name, brackets, no_projection, next_projection}
+use Rattle.productions.specs.Machine.{State, run, and_step, start_module, start_exp}
+use Rattle.grammar.specs.Faults.{refuses, first_refused, IsRead, IsTooDeep, IsFault, Reaches, StopsAt, at_token, at_end, Outcome, Ends, Steps}
 use Rattle.productions.specs.declared.past.Past.{Past}
-use Rattle.parser_states.specs.declared.state.Parser.{Parser}
 use Rattle.grammar.specs.declared.reading.Text.{Text as TextOf}
 use Rattle.grammar.specs.declared.reading.Text.TheVariants as T
 use Rattle.grammar.specs.declared.reading.ReadFault.{ReadFault}

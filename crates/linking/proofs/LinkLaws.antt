@@ -4,9 +4,8 @@ use Rattle.std.specs.List.{All, flat_map, list_any}
 use Rattle.std.proofs.lemmas.List.{get_or-reverse, reverse-append, reverse-reverse, length-append, length-map, length-reverse}
 use Rattle.std.proofs.lemmas.List.Concat.{flat_map-append}
 use Rattle.syntax.specs.View.{module_of}
-use Rattle.trees.specs.Judgements.{Judgement}
 use Rattle.translation.specs.declared.fault.ScopeFault.{ScopeFault}
-use Rattle.translation.specs.Scopes.{Scope, Definition, context_of}
+use Rattle.translation.specs.Scopes.{Scope, context_of}
 use Rattle.translation.specs.Translated.{Translated, Stated, Refuses, done, ◌>>=◌, judgements_of}
 use Rattle.translation.specs.Names.{Word}
 use Rattle.translation.specs.Texts.{Written, block}
@@ -22,7 +21,7 @@ use Rattle.readings.specs.Shaped.{Become, after_definition}
 use Rattle.module_texts.specs.declared.text.ModuleText.{ModuleText}
 use Rattle.module_texts.specs.Texts.{name_of, imports_of}
 use Rattle.resolver.specs.declared.resolving.Codes.{Codes}
-use Rattle.resolver.specs.Resolved.{AreCodes, AreEarlier, AreSpelt, Holds, IsFaultOf, IsTop, Leaves, bound_as, bound_by, definitions_of, entry, words, defs_in as codes_in}
+use Rattle.resolver.specs.Resolved.{AreCodes, AreEarlier, AreSpelt, Holds, IsFaultOf, Leaves, bound_as, bound_by, definitions_of, entry, words, defs_in as codes_in}
 use Rattle.resolver.proofs.Leaving.{words_append, words_kept}
 use Rattle.linking.specs.declared.known.Known.{Known as Kept}
 use Rattle.linking.specs.declared.linked.Linker.{Linker}

@@ -1,5 +1,5 @@
 -- What is kept of modules, and how it stands for what they mean.
-use Rattle.std.specs.Prelude.{◌≡◌, ◌||◌, ℕ, Bool, List, [], ◌∷◌, bytes_eq, length, map, reverse}
+use Rattle.std.specs.Prelude.{◌≡◌, ◌||◌, ℕ, Bool, List, [], ◌∷◌, bytes_eq, map, reverse}
 use Rattle.std.specs.List.{flat_map, list_any}
 use denote.Ref.{Bor}
 use Rattle.scopes.specs.declared.scope.Scope.{Scope as ScopeOf}

@@ -1,7 +1,6 @@
 -- What is kept in a list.
 use Rattle.std.proofs.Common.{ℕ, zero, suc, ◌≡◌, refl, sym}
-use Rattle.syntax.specs.Tree.{Tree, Trees, with, and, none}
-use Rattle.productions.specs.Grammar.{kept}
+use Rattle.syntax.specs.Tree.{Tree, Trees, with}
 use Rattle.productions.specs.Machine.{keep_last}
 use Rattle.productions.proofs.Steps.{trees_none}
 

@@ -1,5 +1,5 @@
 -- The parser's values as those of the machine.
-use Rattle.std.specs.Prelude.{ℕ, ◌≡◌, ◌-◌, List, [], ◌∷◌, Option, Some, None, Result, Ok, Err, map}
+use Rattle.std.specs.Prelude.{ℕ, ◌≡◌, ◌-◌, List, Option, Some, None, Result, Ok, Err, map}
 use Rattle.std.specs.Prelude.{reverse}
 use Rattle.layout_lexer.specs.declared.token.Token.{Token}
 use Rattle.syntax.specs.declared.exp.Exp.{Exp}

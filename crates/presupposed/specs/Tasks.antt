@@ -50,7 +50,8 @@ pub record Fills (b : Contents) (q : Question) (e : Entry) (few : List ℕ) (J :
   pub stands : Stands b q J
   pub made : Node
   pub made_is : book_nodes b q.node.0 ≡ Some made
-  pub entry : IsEntry (equiv_tycong_statement ∷ []) made.rule q.label e.sources.now e.rows.now e.last
+  pub entry
+      : IsEntry (equiv_tycong_statement ∷ []) made.rule q.label e.sources.now e.rows.now e.last
   -- what the premises of the rule conclude
   pub wants : List Judgement
   pub wants_are : meanings (book_concludes b) made.premises ≡ Some wants

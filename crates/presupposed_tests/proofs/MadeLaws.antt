@@ -1,5 +1,5 @@
 -- What derivations without parts give.
-use Rattle.std.proofs.Common.{◌≡◌, ◌<◌, ◌+◌, ℕ, zero, suc, List, [], ◌∷◌, refl, ◌∙◌, ap, arith, true, Some}
+use Rattle.std.proofs.Common.{◌≡◌, ◌<◌, ◌+◌, ℕ, zero, suc, List, [], refl, arith, Some}
 use Rattle.std.specs.Prelude.{slice_index, slice_get}
 use Rattle.std.proofs.lemmas.List.Elements.{All-nil}
 use Rattle.trees.specs.Judgements.{Judgement, trees}
@@ -7,7 +7,6 @@ use Rattle.trees.specs.Language.{Tm}
 use Rattle.trees.specs.Things.{meanings}
 use Rattle.trees.proofs.Meanings.{meanings-at}
 use Rattle.conditions.specs.Sides.{SideHolds}
-use Rattle.recipes.specs.Statements.{Statement, Claimed, stated}
 use Rattle.recipes.specs.Derivations.{StatesAt}
 use Rattle.book.specs.Contents.{Contents}
 use Rattle.book.specs.Shown.{book_concludes}

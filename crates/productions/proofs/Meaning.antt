@@ -5,9 +5,9 @@ use Rattle.syntax.specs.declared.formula.End.{End}
 use Rattle.syntax.specs.declared.formula.Equation.{Equation}
 use Rattle.syntax.specs.declared.formula.Projection.{Projection}
 use Rattle.syntax.specs.Tree.{Formula, Negate, Meet, Join, Tree, Let, Lambda, PathLambda, Pi, Sigma, Arrow, Name, Brackets, At, Tele, Side, Def, Module, Trees, none, and}
-use Rattle.productions.specs.Words.{Word, Open, Next, Close, LeftParen, RightParen, RightBracket, Colon, Equals, Greater, To, Star, And, Or, EndOf, ModuleWord, WhereWord, InWord, Identifier, Piece, piece, span}
-use Rattle.productions.specs.Grammar.{limit, begin, skip, start_of, from, kept, shallow, shallow_formula, applied, projected, equation, IsNames, IsProjections, IsFormula, IsConj, IsNeg, IsEquations, IsExp, IsExp1, IsExp2, IsElements, IsExp3, IsExp4, IsExp5, IsComponents, IsTele, IsTeles, IsSystem, IsSides, IsSide, IsBlock, IsDef, IsDefs, IsItems}
-use Rattle.productions.specs.Machine.{keep_last, Place, room_of, Slot, Whole, place_of, Owner, owner_room, Use, ForLambda, ForProduct, ForDef, Binder, OfLambda, OfPi, OfSigma, bind, Frame, InBracket, InTele, InArrow, InBinder, InPath, InLet, InLetBody, InSide, InType, InBody, InWhere, InModule, Inner, InNegation, InMeet, InJoin, InParens, IsNoNegation, IsNoOperand, Top, WantModule, WantModuleName, WantModuleWhere, WantModuleOpen, FirstItem, WantImport, AfterImport, NextItem, WantDef, AfterDef, WantBlock, BlockStart, WantIn, Done, WantExp, WantExp1, WantPathName, PathName, WantTele, TeleName, TeleMore, AfterTele, Opened, Maybe, WantExp4, Projected, Spined, WantNeg, HaveNeg, WantSystem, SystemStart, WantSide, EquationName, EquationSign, EquationEnd, EquationClose, State, in_bracket, put, give, owned}
+use Rattle.productions.specs.Words.{Open, Next, Close, RightParen, RightBracket, Colon, Equals, Greater, To, Star, And, Or, EndOf, ModuleWord, WhereWord, InWord, Identifier, Piece, piece, span}
+use Rattle.productions.specs.Grammar.{begin, skip, start_of, from, kept, shallow, shallow_formula, applied, projected, equation, IsNames, IsProjections, IsFormula, IsConj, IsNeg, IsEquations, IsExp, IsExp1, IsElements, IsExp4, IsComponents, IsTele, IsTeles, IsSystem, IsSides, IsBlock, IsDef, IsDefs, IsItems}
+use Rattle.productions.specs.Machine.{keep_last, Place, room_of, Slot, Whole, place_of, Owner, owner_room, Use, ForLambda, ForProduct, ForDef, Binder, bind, Frame, InBracket, InTele, InArrow, InBinder, InPath, InLet, InLetBody, InSide, InType, InBody, InWhere, InModule, Inner, InNegation, InMeet, InJoin, InParens, IsNoNegation, IsNoOperand, Top, WantModule, WantModuleName, WantModuleWhere, WantModuleOpen, FirstItem, WantImport, AfterImport, NextItem, WantDef, AfterDef, WantBlock, BlockStart, WantIn, Done, WantExp, WantExp1, WantPathName, PathName, WantTele, TeleName, TeleMore, AfterTele, Opened, Maybe, WantExp4, Projected, Spined, WantNeg, HaveNeg, WantSystem, SystemStart, WantSide, EquationName, EquationSign, EquationEnd, EquationClose, State, in_bracket, put, give, owned}
 use Rattle.productions.specs.declared.past.Past.{Past}
 
 -- A part of a formula stands in these frames, and the tokens up to the rest complete it to the formula.

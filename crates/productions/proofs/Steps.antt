@@ -1,16 +1,11 @@
 -- Each step keeps what completes.
-use Rattle.std.proofs.Common.{ℕ, zero, suc, ◌≡◌, ◌-◌, List, [], ◌∷◌, ◌++◌, Option, Some, None, refl, sym, ap, subst, ◌∙◌, append_assoc}
-use Rattle.std.proofs.lemmas.List.{append-nil}
-use Rattle.layout_lexer.specs.declared.token.Span.{Span}
-use Rattle.syntax.specs.declared.formula.End.{End}
-use Rattle.syntax.specs.declared.formula.Equation.{Equation}
-use Rattle.syntax.specs.declared.formula.Projection.{Projection}
-use Rattle.syntax.specs.Tree.{Formula, Negate, Meet, Join, Tree, Let, Lambda, PathLambda, Pi, Sigma, Arrow, Name, Brackets, At, Tele, Side, Def, Module, Trees, none, more, and}
-use Rattle.productions.specs.Words.{Half, PathWord, ComposingWord, TransportWord, FormWord, PairingWord, GluingWord, Word, Open, Next, Close, LeftParen, RightParen, LeftBracket, RightBracket, Comma, Colon, Equals, AtSign, Star, Less, Greater, Backslash, Minus, To, And, Or, Dot, EndOf, ModuleWord, WhereWord, ImportWord, LetWord, InWord, Form, UniverseWord, Identifier, Piece, piece, span}
-use Rattle.productions.specs.Grammar.{limit, begin, skip, start_of, from, kept, shallow, shallow_formula, applied, projected, half, equation, IsNames, no_name, next_name, IsProjections, no_projection, next_projection, IsFormula, conj, join, IsConj, neg, meet, IsNeg, negation, constant_end, variable, bracketed, IsEquations, no_equation, next_equation, IsExp, let_in, lambda, path_lambda, exp1, IsExp1, pi, sigma, arrow, exp2, IsExp2, apply, IsElements, no_element, argument, at, IsExp3, path_type, comp_or_fill, transport, glue, exp4, IsExp4, project, IsExp5, universe, name, brackets, IsComponents, no_component, next_component, IsTele, tele, IsTeles, no_tele, next_tele, IsSystem, empty_system, system, IsSides, no_side, next_side, IsSide, side, IsBlock, empty_block, block, IsDef, def, def_where, IsDefs, no_def, next_def, IsItems, last_import, next_import, defs}
-use Rattle.productions.specs.Machine.{keep_last, Place, Head, Element, room_of, after, Slot, Whole, FirstOf, SecondOf, ThirdOf, place_of, Owner, OfComposing, OfGluing, owner_room, Use, ForLambda, ForProduct, ForDef, Frame, InBracket, InTele, InArrow, InBinder, InPath, InLet, InLetBody, InSide, InType, InBody, InWhere, InModule, Inner, InNegation, InMeet, InJoin, InParens, IsNoNegation, IsNoOperand, Top, WantModule, WantModuleName, WantModuleWhere, WantModuleOpen, FirstItem, WantImport, AfterImport, NextItem, WantDef, AfterDef, WantBlock, BlockStart, WantIn, Done, WantExp, WantExp1, WantPathName, PathName, WantTele, TeleName, TeleMore, AfterTele, Opened, Maybe, WantExp4, Projected, Spined, WantNeg, HaveNeg, WantSystem, SystemStart, WantSide, EquationName, EquationSign, EquationEnd, EquationClose, State, to, in_bracket, put, give, owned, bind, close_block, deliver, step_exp5, step_exp3, step_exp1, step_exp, step_spined, step_system, step_given, step_projected, step_opened, step_maybe, step_more, step_teles, step_path, step_def, step_item, step_neg, after_formula, after_conj, after_neg, step_side, step}
+use Rattle.std.proofs.Common.{ℕ, zero, suc, ◌≡◌, ◌-◌, List, [], ◌∷◌, ◌++◌, refl, ap, ◌∙◌, append_assoc}
+use Rattle.syntax.specs.Tree.{Tree, Let, PathLambda, Arrow, Def, Trees, none, more, and}
+use Rattle.productions.specs.Words.{PathWord, ComposingWord, TransportWord, PairingWord, GluingWord, Word, Next, Close, LeftParen, RightParen, RightBracket, Comma, Equals, And, Or, Dot, WhereWord, Form, UniverseWord, Identifier, Piece, piece}
+use Rattle.productions.specs.Grammar.{skip, from, kept, shallow, no_element, argument, at, IsExp3, path_type, comp_or_fill, transport, glue, exp4, project, universe, name, brackets, no_component, next_component, empty_system, system, no_side, next_side, side, no_def, next_def}
+use Rattle.productions.specs.Machine.{keep_last, Place, Head, Element, room_of, Slot, Whole, FirstOf, SecondOf, ThirdOf, Owner, Frame, InBracket, InTele, InArrow, InBinder, InPath, InLet, InLetBody, InSide, InType, InBody, InWhere, InModule, WantExp4, Spined, WantSystem, put, give, bind, close_block, deliver, step_exp5, step_exp3}
 use Rattle.productions.specs.declared.past.Past.{Past}
-use Rattle.productions.proofs.Meaning.{NegOn, neg_negated, neg_ends, neg_meets, ConjOn, conj_negated, conj_met, conj_ends, conj_joins, FormulaOn, whole, formula_negated, formula_met, formula_joined, parens_close, IsStrayBlock, After, arrow_ends, binder_ends, path_ends, let_ends, bracket_closes, tele_closes, side_ends, type_ends, body_ends, body_where, DefsOn, defs_on, AfterBlock, block_closes, BlockOn, let_block, where_block, stray_block, module_block, TelesOn, to_lambda, to_pi, to_sigma, to_def, Completes, module_word, module_name, module_where, module_open, no_items, first_items, next_items, want_import, more_imports, no_more_imports, want_def, after_def, want_block, no_defs, some_defs, want_in, done, want_exp, want_exp1, want_path_name, path_name, want_tele, tele_name, tele_more, after_tele, opened_exp, opened_tele, maybe_tele, maybe_exp, want_exp4, projections, spine_ends, spine_goes, want_neg, have_neg, want_system, no_sides, some_sides, want_side, equation_name, equation_sign, equation_end, equation_close, Now}
+use Rattle.productions.proofs.Meaning.{After, arrow_ends, binder_ends, path_ends, let_ends, bracket_closes, tele_closes, side_ends, type_ends, body_ends, body_where, defs_on, AfterBlock, block_closes, BlockOn, let_block, where_block, stray_block, module_block, Completes, want_def, after_def, want_block, want_in, done, want_exp, after_tele, want_exp4, projections, spine_ends, spine_goes, want_system, want_side, Now}
 
 -- lists: one more element
 trees_assoc : (xs ys zs : Trees) → and (and xs ys) zs ≡ and xs (and ys zs)

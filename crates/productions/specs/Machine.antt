@@ -1,13 +1,12 @@
 -- The parser's states and steps.
-use Rattle.std.specs.Prelude.{ℕ, zero, suc, ◌-◌, List, [], ◌∷◌, ◌++◌, Option, Some, None}
+use Rattle.std.specs.Prelude.{ℕ, ◌-◌, List, [], ◌∷◌, ◌++◌, Option, Some, None}
 use Rattle.layout_lexer.specs.declared.token.Span.{Span}
-use Rattle.syntax.specs.declared.formula.End.{End}
 use Rattle.syntax.specs.declared.formula.Equation.{Equation}
 use Rattle.syntax.specs.declared.formula.Projection.{Projection}
 use Rattle.syntax.specs.Tree.{Formula, Variable, Negate, Meet, Join, Tree, Let, Lambda, PathLambda}
 use Rattle.syntax.specs.Tree.{Pi, Sigma, Arrow, PathP, Transport, Universe, Name, Brackets, At}
 use Rattle.syntax.specs.Tree.{Tele, Side, Def, Module, Trees, none, and}
-use Rattle.productions.specs.Words.{Half, Composing, Gluing, Pairing, PathWord, ComposingWord}
+use Rattle.productions.specs.Words.{Composing, Gluing, Pairing, PathWord, ComposingWord}
 use Rattle.productions.specs.Words.{TransportWord, FormWord, PairingWord, GluingWord, Word, Open}
 use Rattle.productions.specs.Words.{Next, Close, LeftParen, RightParen, LeftBracket, RightBracket}
 use Rattle.productions.specs.Words.{Comma, Colon, Equals, AtSign, Star, Less, Greater, Backslash}

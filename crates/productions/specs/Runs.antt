@@ -1,5 +1,5 @@
 -- What runs of the parser are worth.
-use Rattle.std.specs.Prelude.{ℕ, ◌≡◌, List, [], ◌∷◌, ◌++◌, Option, Some, None}
+use Rattle.std.specs.Prelude.{◌≡◌, List, [], ◌∷◌, ◌++◌, Option, Some, None}
 use Rattle.syntax.specs.Tree.{Tree}
 use Rattle.productions.specs.Words.{Piece}
 use Rattle.productions.specs.Grammar.{IsBegun}

@@ -1,5 +1,5 @@
 -- Names that are applied: the built-in `suc` and `natrec` with arguments of their own, and others.
-use Rattle.std.proofs.Common.{◌≡◌, ◌+◌, ◌<◌, ◌≤◌, ℕ, zero, suc, List, [], ◌∷◌, map, length, get_or, refl, sym, ap, ◌∙◌, arith, subst}
+use Rattle.std.proofs.Common.{◌≡◌, ◌<◌, ◌≤◌, ℕ, zero, suc, List, [], ◌∷◌, map, length, get_or, refl, sym, ap, ◌∙◌, arith, subst}
 use Rattle.layout_lexer.specs.declared.token.Span.{Span}
 use Rattle.syntax.specs.declared.exp.Exp.{Exp}
 use Rattle.syntax.specs.declared.exp.Element.{Element, Argument as Argument', At as At'}
@@ -11,7 +11,7 @@ use Rattle.translation.specs.Scopes.{Scope}
 use Rattle.translation.specs.Translated.{Translated, done, ◌>>=◌}
 use Rattle.translation.specs.Names.{Word, Meaning, BuiltInName, as_term}
 use Rattle.translation.specs.Forms.{Means, one, application, apply_all}
-use Rattle.translation.specs.Texts.{Given, Argument as GivenArgument, At as GivenAt, word, headed, elements, stands_for, term_at}
+use Rattle.translation.specs.Texts.{Argument as GivenArgument, word, headed, elements, stands_for, term_at}
 use Rattle.codes.specs.declared.code.Code.{Code}
 use Rattle.codes.specs.declared.code.Opened.{Opened}
 use Rattle.codes.specs.declared.code.Element.{Element as CodeElement}

@@ -1,5 +1,5 @@
 -- A definition, from its parts.
-use Rattle.std.proofs.Common.{◌≡◌, ◌+◌, ◌-◌, ◌<◌, ◌≤◌, ℕ, suc, List, [], ◌∷◌, map, length, drop, refl, sym, ap, ◌∙◌, arith, subst}
+use Rattle.std.proofs.Common.{◌≡◌, ◌+◌, ◌-◌, ℕ, suc, List, map, length, refl, sym, ap, ◌∙◌, arith, subst}
 use Rattle.syntax.specs.declared.exp.Def.{Def, out-Def}
 use Rattle.syntax.specs.declared.exp.Exp.{Exp}
 use Rattle.syntax.specs.declared.exp.Tele.{Tele}
@@ -9,13 +9,13 @@ use Rattle.translation.specs.Terms.{pi, lam}
 use Rattle.translation.specs.Scopes.{Scope}
 use Rattle.translation.specs.Translated.{done, ◌>>=◌}
 use Rattle.translation.specs.Names.{Word}
-use Rattle.translation.specs.Forms.{Means, Binder, under, after, define, defined}
+use Rattle.translation.specs.Forms.{Means, Binder, after, define, defined}
 use Rattle.codes.specs.declared.code.Code.{Code}
 use Rattle.codes.specs.declared.code.CodeDef.{CodeDef}
 use Rattle.codes.specs.declared.code.Binder.{Binder as BinderOf}
 use Rattle.codes.specs.Codes.{meaning, binder, definition, definitions}
-use Rattle.scopes.specs.Steps.{State, Resolves, Extends, Binds, Opens, Defines, Keeps}
-use Rattle.scopes.proofs.Moving.{resolves_two, keeps_then}
+use Rattle.scopes.specs.Steps.{State, Resolves, Extends, Binds, Opens, Defines}
+use Rattle.scopes.proofs.Moving.{resolves_two}
 use Rattle.scopes.proofs.Binders.{extends_then, extends_kept, keeps_cut, resolves_under}
 use Rattle.scopes.proofs.Blocks.{defines, resolves_after}
 use Rattle.readings.specs.Spelt.{code_term, code_binders, code_block, code_def, term_of, binders_of, block_of, means_of, number_of}

@@ -1,21 +1,20 @@
 -- What the forms of a text are resolved to, from what their parts are.
-use Rattle.std.proofs.Common.{◌≡◌, ◌+◌, ◌-◌, ◌<◌, ◌≤◌, ℕ, zero, suc, List, [], ◌∷◌, ◌++◌, map, length, drop, replicate, codes, Result, Ok, Err, IfOk, refl, sym, ap, ◌∙◌, arith, subst}
+use Rattle.std.proofs.Common.{◌≡◌, ◌-◌, ◌≤◌, ℕ, List, [], ◌∷◌, map, length, drop, replicate, codes, Result, Ok, Err, IfOk, refl, sym, ◌∙◌, subst}
 use Rattle.std.proofs.lemmas.List.{length-map}
 use Rattle.layout_lexer.specs.declared.token.Span.{Span}
 use Rattle.syntax.specs.declared.exp.Exp.{Exp}
 use Rattle.syntax.specs.declared.exp.Tele.{Tele}
 use Rattle.syntax.specs.declared.exp.Side.{Side as SideOf}
-use Rattle.syntax.specs.declared.exp.Def.{Def, out-Def}
+use Rattle.syntax.specs.declared.exp.Def.{Def}
 use Rattle.syntax.specs.declared.exp.Element.{Element}
 use Rattle.trees.specs.Trees.{Tree}
 use Rattle.translation.specs.declared.fault.Cause.TheVariants.{GlueSide}
-use Rattle.translation.specs.Terms.{pathp, comp, glue_type, glue, unglue, natrec, suc as suc_tree, pi, lam, nat, universe}
-use Rattle.translation.specs.Systems.{On, cover, body, line_body, filling}
-use Rattle.translation.specs.Scopes.{Scope, Variable, Interval}
-use Rattle.translation.specs.Translated.{Translated, done, refused, ◌>>=◌}
+use Rattle.translation.specs.Terms.{pathp, comp, glue_type, glue, unglue, pi, universe}
+use Rattle.translation.specs.Systems.{cover, body, line_body, filling}
+use Rattle.translation.specs.Translated.{done, refused, ◌>>=◌}
 use Rattle.translation.specs.Names.{Word}
 use Rattle.translation.specs.Texts.{word}
-use Rattle.translation.specs.Forms.{Means, Binder, Element as ElementOf, Side, all, one, two, path_type, composition, transport, fill, glue_of_types, glue_of_terms, unglued, types, equivalences, system, application, apply_all, under, over, under_names, after, define, defined, tuple, project, applied_to_name, applied_to_variable}
+use Rattle.translation.specs.Forms.{Means, one, path_type, composition, transport, fill, glue_of_types, glue_of_terms, unglued, types, equivalences, system, application, under, under_names, after, tuple}
 use Rattle.codes.specs.declared.code.Code.{Code}
 use Rattle.codes.specs.declared.code.Opened.{Opened}
 use Rattle.codes.specs.declared.code.CodeDef.{CodeDef}
@@ -24,14 +23,14 @@ use Rattle.codes.specs.declared.code.Element.{Element as CodeElement}
 use Rattle.codes.specs.declared.code.Side.{Side as CodeSide}
 use Rattle.codes.specs.declared.code.LineSide.{LineSide}
 use Rattle.codes.specs.declared.code.PairSide.{PairSide}
-use Rattle.codes.specs.Codes.{meaning, at_name, at_variable, binder, binder_of, element, both, recursion, term_side, line_side, pair_side, definition, definitions}
+use Rattle.codes.specs.Codes.{meaning, at_name, binder, binder_of, element, both, term_side, line_side, pair_side, definitions}
 use Rattle.scopes.specs.declared.names.Binding.TheVariants as binding
-use Rattle.scopes.specs.Steps.{State, Moving, Resolves, Keeps, Extends, Binds, Opens, bound_to, all_bound_to, noted, Same}
-use Rattle.scopes.proofs.Moving.{moving_then, keeps_then, resolves_done, resolves_one, resolves_two, resolves_three, resolves_four}
-use Rattle.scopes.proofs.Binders.{binds_none, binds_more, extends_then, extends_kept, keeps_cut, resolves_under, resolves_under_names, resolves_over, resolves_in_interval, resolves_in_variable}
+use Rattle.scopes.specs.Steps.{State, Moving, Resolves, Binds, Opens, bound_to, all_bound_to, noted, Same}
+use Rattle.scopes.proofs.Moving.{moving_then, resolves_done, resolves_one, resolves_two, resolves_three}
+use Rattle.scopes.proofs.Binders.{binds_none, binds_more, resolves_under, resolves_under_names}
 use Rattle.scopes.proofs.Blocks.{moves_refused, resolves_after}
-use Rattle.scopes.proofs.Lists.{resolves_tuple, resolves_application, argument_resolves, at_resolves}
-use Rattle.readings.specs.Spelt.{Applies, code_term, code_terms, code_line, code_motive, code_pair, code_binders, code_block, code_elements, code_term_sides, code_line_sides, code_pair_sides, term_of, terms_of, line_of, pair_of, no_pair_of, place_of, words_of, binders_of, elements_of, plain_of, side_of, term_sides_of, line_sides_of, pair_sides_of, block_of}
+use Rattle.scopes.proofs.Lists.{resolves_tuple, resolves_application}
+use Rattle.readings.specs.Spelt.{Applies, code_term, code_terms, code_line, code_motive, code_pair, code_binders, code_block, code_elements, code_term_sides, code_line_sides, code_pair_sides, term_of, terms_of, line_of, pair_of, no_pair_of, place_of, words_of, binders_of, elements_of, side_of, term_sides_of, line_sides_of, pair_sides_of, block_of}
 
 -- what a call answers, where what it makes means what was resolved
 pub answered : {E : Type 0} {s t : State} {f : Means Word Tree} {g : Means ℕ Tree} (r : Result Code E)

@@ -1,4 +1,5 @@
 pub mod Spelling
+pub mod TextTrees
 pub mod Shaping
 pub mod Others
 pub mod FormLaws

@@ -1,8 +1,7 @@
 -- Whether a name is the built-in `nat`.
-use Rattle.std.proofs.Common.{◌≡◌, ℕ, Bool, true, false, List, refl, sym, ap, ◌∙◌}
+use Rattle.std.proofs.Common.{◌≡◌, ℕ, true, false, List, refl, sym, ap, ◌∙◌}
 use Rattle.layout_lexer.specs.declared.token.Span.{Span}
 use Rattle.syntax.specs.declared.exp.Exp.{Exp, Name as Name_}
-use Rattle.translation.specs.declared.built_in.BuiltIn.{BuiltIn}
 use Rattle.translation.specs.declared.built_in.BuiltIn.TheVariants as built_in
 use Rattle.translation.specs.Scopes.{Scope}
 use Rattle.translation.specs.Names.{Word, is_built_in_nat}

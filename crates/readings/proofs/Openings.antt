@@ -1,19 +1,16 @@
 -- Texts that stand opened.
-use Rattle.std.proofs.Common.{◌≡◌, ◌+◌, ◌-◌, ◌<◌, ◌≤◌, ℕ, zero, suc, Bool, true, false, Box, Global, List, [], ◌∷◌, map, length, drop, replicate, Option, Some, None, is_some, refl, sym, ap, ◌∙◌, arith, subst}
+use Rattle.std.proofs.Common.{◌≡◌, ◌-◌, ℕ, List, [], ◌∷◌, map, length, replicate, refl, sym, ap, ◌∙◌, subst}
 use Rattle.std.proofs.lemmas.List.{length-map}
 use Rattle.layout_lexer.specs.declared.token.Span.{Span}
-use Rattle.syntax.specs.declared.exp.Exp.{Exp, Lambda as Lambda_, PathLambda as PathLambda_, Brackets as Brackets_}
-use Rattle.syntax.specs.declared.exp.Exps.{Exps}
+use Rattle.syntax.specs.declared.exp.Exp.{Exp}
 use Rattle.syntax.specs.declared.exp.Tele.{Tele}
-use Rattle.syntax.specs.declared.exp.Teles.{Teles}
-use Rattle.syntax.specs.View.{tele_items}
 use Rattle.trees.specs.Trees.{Tree}
 use Rattle.translation.specs.Terms.{lam, nat, universe, lifted, innermost, app, papp}
 use Rattle.translation.specs.Scopes.{Scope, Variable, Interval}
-use Rattle.translation.specs.Translated.{done, ◌>>=◌}
+use Rattle.translation.specs.Translated.{done}
 use Rattle.translation.specs.Names.{Word}
-use Rattle.translation.specs.Texts.{word, Reading, brackets, motive_of as motive_reading, teles}
-use Rattle.translation.specs.Forms.{Means, Binder, under, over, under_names, applied_to_name, applied_to_variable}
+use Rattle.translation.specs.Texts.{word}
+use Rattle.translation.specs.Forms.{Means, under, over, under_names, applied_to_name, applied_to_variable}
 use Rattle.codes.specs.declared.code.Code.{Code}
 use Rattle.codes.specs.declared.code.Opened.{Opened}
 use Rattle.codes.specs.declared.code.Opened.TheVariants.{Under, Applied}
@@ -24,8 +21,7 @@ use Rattle.scopes.specs.Steps.{State, Agree, Resolves, Extends, Binds, bound_to,
 use Rattle.scopes.proofs.Moving.{resolves_done, resolves_one}
 use Rattle.scopes.proofs.Binders.{binds_none, binds_more, extends_then, keeps_cut, resolves_under, resolves_under_names, resolves_over, resolves_in_interval, resolves_in_variable}
 use Rattle.scopes.proofs.Lookups.{resolves_where}
-use Rattle.readings.specs.Spelt.{read, code_term, code_line, code_motive, code_binders, is_nat_of, term_of, line_of, motive_of, words_of, binders_of}
-use Rattle.readings.proofs.Spelling.{read_brackets, binders_spelt}
+use Rattle.readings.specs.Spelt.{code_term, code_line, code_motive, code_binders, term_of, line_of, motive_of, words_of, binders_of}
 use Rattle.readings.proofs.FormLaws.{cut_to, settled, marked}
 
 -- a text that is applied to its name, or its variable

@@ -1,5 +1,5 @@
 -- Which texts are written lines, motives, pairs or `nat`, and that no others are.
-use Rattle.std.proofs.Common.{◌≡◌, ◌+◌, ◌<◌, ◌≤◌, ℕ, suc, Bool, true, false, Box, Global, List, [], ◌∷◌, map, length, refl, sym, ap, ◌∙◌, subst, arith, if◌then◌else◌}
+use Rattle.std.proofs.Common.{◌≡◌, ℕ, Bool, true, false, Box, Global, List, [], ◌∷◌, map, length, refl, sym, ap, ◌∙◌, subst, if◌then◌else◌}
 use Rattle.std.proofs.lemmas.List.{length-map}
 use Rattle.layout_lexer.specs.declared.token.Span.{Span}
 use Rattle.syntax.specs.declared.exp.Exp.{Exp, Exp-F, out-Exp, roll-Exp, roll-out-Exp, Lambda as Lambda_, PathLambda as PathLambda_, Brackets as Brackets_, Name as Name_}
@@ -16,7 +16,7 @@ use Rattle.translation.specs.declared.fault.Cause.TheVariants.{GlueSide}
 use Rattle.translation.specs.Terms.{universe, lam, nat}
 use Rattle.translation.specs.Scopes.{Scope, Variable, Interval}
 use Rattle.translation.specs.Translated.{done, refused, ◌>>=◌}
-use Rattle.translation.specs.Names.{Word, is_built_in_nat}
+use Rattle.translation.specs.Names.{Word}
 use Rattle.translation.specs.Forms.{Means, applied_to_name, applied_to_variable, under, under_names, over, tuple}
 use Rattle.translation.specs.Texts.{Reading, reading, brackets, teles, word, opened, motive_of as motive_reading}
 use Rattle.readings.specs.Spelt.{read, is_nat_of, term_of, line_of, motive_of, pair_of, no_pair_of, words_of, binder_of, binders_of}

@@ -1,5 +1,5 @@
 -- Slices that begin with so many items.
-use Rattle.std.proofs.Common.{◌≡◌, ◌+◌, ◌-◌, ◌<◌, ◌≤◌, ℕ, zero, suc, List, [], ◌∷◌, length, take, drop, get_or, take_all, refl, sym, ap, ◌∙◌, arith}
+use Rattle.std.proofs.Common.{◌≡◌, ◌-◌, ◌<◌, ◌≤◌, ℕ, suc, List, [], ◌∷◌, length, take, drop, get_or, take_all, refl, sym, ap, ◌∙◌, arith}
 
 module _ {X : Type 0} where
   -- what is left of a slice after so many items

@@ -1,5 +1,5 @@
 -- The readings of a text's productions, by those of their parts.
-use Rattle.std.proofs.Common.{◌≡◌, ℕ, Box, Global, List, [], ◌∷◌, ◌++◌, codes, map, refl, sym, ap, ◌∙◌, subst}
+use Rattle.std.proofs.Common.{◌≡◌, ℕ, Box, Global, List, [], ◌∷◌, ◌++◌, codes, map, refl, sym, ap, ◌∙◌}
 use Rattle.layout_lexer.specs.declared.token.Span.{Span}
 use Rattle.syntax.specs.declared.exp.Exp.{Exp, Let as Let_, Lambda as Lambda_, Pi as Pi_, Sigma as Sigma_, PathLambda as PathLambda_, Comp as Comp_, Fill as Fill_, GlueType as GlueType_, GlueTerm as GlueTerm_, Unglue as Unglue_, Brackets as Brackets_, Apply as Apply_, Arrow as Arrow_, PathP as PathP_, Transport as Transport_, Project as Project_, Universe as Universe_, Name as Name_, Let', Lambda', PathLambda', Pi', Sigma', Arrow', Apply', PathP', Comp', Fill', Transport', GlueType', GlueTerm', Unglue', Project', Universe as Universe', Name as Name', Brackets'}
 use Rattle.syntax.specs.declared.exp.Element.{Element, Argument as Argument', At as At'}
@@ -16,13 +16,12 @@ use Rattle.syntax.specs.Tree as text
 use Rattle.syntax.specs.Tree.{Trees, none, more}
 use Rattle.syntax.specs.View.{tree_of, tree_list, tele_of, teles_of, tele_items, side_of as side_tree, sides_of, side_items, def_of, defs_of, def_items, element_of as element_tree}
 use Rattle.syntax.proofs.Rows.{teles_of_items, sides_of_items, defs_of_items, tree_of_brackets, tree_of_apply}
-use Rattle.trees.specs.Trees.{Tree}
 use Rattle.translation.specs.Terms.{lam, pi, sig, universe}
 use Rattle.translation.specs.Translated.{done}
 use Rattle.translation.specs.Names.{Word}
 use Rattle.translation.specs.Forms.{application, after, under, under_names, path_type, composition, fill, transport, glue_of_types, glue_of_terms, unglued, tuple, defined, one, project}
-use Rattle.translation.specs.Texts.{Reading, Written, reading, binders, teles, sides, term_sides, line_sides, pair_sides, given, Given, Argument as GivenArgument, At as GivenAt, elements, components, defs, block, path_lambda, brackets, headed, stands_for, nameless, term_at}
-use Rattle.readings.specs.Spelt.{read, term_of, line_of, motive_of, pair_of, place_of, binder_of, binders_of, element_of, elements_of, given_of, named_of, side_of, written_in, block_of, means_of, written_of, words_of, def_names}
+use Rattle.translation.specs.Texts.{Reading, Written, reading, binders, teles, sides, term_sides, line_sides, pair_sides, given, Argument as GivenArgument, elements, components, defs, block, path_lambda, brackets, headed, stands_for, term_at}
+use Rattle.readings.specs.Spelt.{read, term_of, line_of, pair_of, place_of, binder_of, binders_of, element_of, elements_of, given_of, named_of, side_of, written_in, block_of, means_of, written_of, words_of, def_names}
 
 module _ (bytes : List ℕ) where
   -- teles

@@ -1,5 +1,5 @@
 -- Lists of a text, one more after the others.
-use Rattle.std.proofs.Common.{◌≡◌, ◌+◌, ◌-◌, ◌<◌, ◌≤◌, ℕ, zero, suc, List, [], ◌∷◌, ◌++◌, map, length, take, get_or, replicate, refl, sym, ap, ◌∙◌, arith, subst}
+use Rattle.std.proofs.Common.{◌≡◌, ◌+◌, ◌-◌, ◌<◌, ◌≤◌, ℕ, List, [], ◌∷◌, ◌++◌, map, length, take, get_or, replicate, sym, ap, ◌∙◌, arith, subst}
 use Rattle.std.proofs.lemmas.List.{length-map, take_more}
 use Rattle.layout_lexer.specs.declared.token.Span.{Span}
 use Rattle.syntax.specs.declared.exp.Exp.{Exp}
@@ -14,7 +14,7 @@ use Rattle.codes.specs.declared.formula.Equation.{Equation}
 use Rattle.trees.specs.Trees.{Tree}
 use Rattle.translation.specs.Names.{Word}
 use Rattle.translation.specs.Texts.{word, block, equations, formula}
-use Rattle.translation.specs.Forms.{Means, Binder, Element as ElementOf, Side, all, system, side, apply_all}
+use Rattle.translation.specs.Forms.{Means, Side, all, system, side}
 use Rattle.codes.specs.declared.code.Code.{Code}
 use Rattle.codes.specs.declared.code.CodeDef.{CodeDef, out-CodeDef}
 use Rattle.codes.specs.declared.code.Binder.{Binder as BinderOf}

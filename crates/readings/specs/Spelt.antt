@@ -2,7 +2,7 @@
 --
 -- These words are closed, so that a goal shows their names: a text that is not known, and a code,
 -- would else stand there with all that each of their forms means.
-use Rattle.std.specs.Prelude.{ℕ, List, [], ◌∷◌, map, Bool}
+use Rattle.std.specs.Prelude.{ℕ, List, map, Bool}
 use Rattle.layout_lexer.specs.declared.token.Span.{Span}
 use Rattle.syntax.specs.declared.exp.Exp.{Exp}
 use Rattle.syntax.specs.declared.exp.Element.{Element, Argument as Argument', At as At'}

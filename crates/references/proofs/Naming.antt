@@ -1,17 +1,17 @@
 -- A name, by what it was found to be.
-use Rattle.std.proofs.Common.{◌≡◌, ℕ, List, refl, sym, ap, ◌∙◌, subst}
+use Rattle.std.proofs.Common.{◌≡◌, ℕ, List, refl, sym, subst}
 use Rattle.layout_lexer.specs.declared.token.Span.{Span}
 use Rattle.trees.specs.Trees.{Tree, Var}
 use Rattle.translation.specs.declared.fault.Cause.{Cause}
 use Rattle.translation.specs.Terms.{universe}
 use Rattle.translation.specs.Scopes.{Scope}
-use Rattle.translation.specs.Translated.{Translated, done, refused, with}
+use Rattle.translation.specs.Translated.{done, refused, with}
 use Rattle.translation.specs.Forms.{Means}
-use Rattle.translation.specs.Names.{Word, as_term, as_name}
+use Rattle.translation.specs.Names.{as_term, as_name}
 use Rattle.translation.specs.Texts.{word, term_at, name_at}
 use Rattle.scopes.specs.declared.names.Found.{Found}
 use Rattle.scopes.specs.Finding.{find}
-use Rattle.scopes.specs.Steps.{State, Progress, Moves, Same, Keeps, Resolves, meant, noted}
+use Rattle.scopes.specs.Steps.{State, Same, Resolves, meant, noted}
 use Rattle.scopes.proofs.Moving.{moves_done, moves_same, keeps_same}
 use Rattle.scopes.proofs.Blocks.{moves_refused}
 use Rattle.scopes.proofs.Lookups.{resolves_term, resolves_name}

@@ -5,7 +5,7 @@ use Rattle.trees.specs.Trees.{Tree}
 use Rattle.trees.specs.Judgements.{Nil}
 use Rattle.layout_lexer.specs.declared.token.Span.{Span}
 use Rattle.translation.specs.Scopes.{Scope, Definition, context_of}
-use Rattle.translation.specs.Translated.{Translated, Stated}
+use Rattle.translation.specs.Translated.{Stated}
 use Rattle.translation.specs.Names.{Word}
 use Rattle.translation.specs.Texts.{Written, block, block_after, word}
 use Rattle.codes.specs.declared.code.CodeDef.{CodeDef, CodeDef', out-CodeDef}

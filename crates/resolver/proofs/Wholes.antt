@@ -1,5 +1,5 @@
 -- Whole texts, in the scope of other modules.
-use Rattle.std.proofs.Common.{◌≡◌, ◌-◌, ◌<◌, ℕ, zero, suc, List, [], ◌∷◌, map, length, reverse, get_or, Some, None, refl, sym, ap, ◌∙◌, arith, subst}
+use Rattle.std.proofs.Common.{◌≡◌, ◌-◌, ℕ, zero, suc, List, map, length, reverse, Some, None, refl, sym, ap, ◌∙◌, subst}
 use Rattle.std.proofs.lemmas.List.{length-map}
 use Rattle.syntax.specs.declared.exp.Exp.{Exp}
 use Rattle.syntax.specs.declared.exp.Def.{Def}
@@ -7,7 +7,6 @@ use Rattle.syntax.specs.declared.exp.Defs.{Defs}
 use Rattle.syntax.specs.declared.exp.Module.{Module as ModuleOf}
 use Rattle.syntax.specs.View.{tree_of, defs_of, def_items, module_of}
 use Rattle.syntax.proofs.Rows.{defs_of_items}
-use Rattle.trees.specs.Trees.{Tree}
 use Rattle.translation.specs.declared.fault.Refusal.{Refusal}
 use Rattle.translation.specs.declared.fault.ScopeFault.{ScopeFault}
 use Rattle.translation.specs.Scopes.{Scope}
@@ -17,7 +16,7 @@ use Rattle.codes.specs.declared.code.Code.{Code}
 use Rattle.codes.specs.declared.code.CodeDef.{CodeDef}
 use Rattle.codes.specs.Codes.{meaning, definitions}
 use Rattle.scopes.specs.declared.scope.ScopeName.{ScopeName}
-use Rattle.scopes.specs.Steps.{State, Progress, Agree, Moves, Same, Resolves, Opens, AreEarlier as AreEarlierNames, count_from, named_of}
+use Rattle.scopes.specs.Steps.{State, Progress, Agree, Moves, Same, Resolves, Opens, count_from, named_of}
 use Rattle.scopes.proofs.Starting.{agree_start}
 use Rattle.readings.specs.Spelt.{read, code_term, code_block, code_names, term_of, block_of, written_in, def_names}
 use Rattle.readings.proofs.Spelling.{names_written, block_spelt}

@@ -3,7 +3,6 @@ use Rattle.std.specs.Prelude.{◌≡◌, ◌<◌, ◌+◌, ℕ, List, [], ◌++�
 use Rattle.std.specs.List.{All}
 use Rattle.layout_lexer.specs.declared.token.Span.{Span}
 use Rattle.syntax.specs.Tree as text
-use Rattle.trees.specs.Trees.{Tree}
 use Rattle.trees.specs.Judgements.{Nil}
 use Rattle.translation.specs.declared.fault.ScopeFault.{ScopeFault}
 use Rattle.codes.specs.declared.code.Code.{Code}

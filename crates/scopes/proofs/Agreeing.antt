@@ -1,9 +1,9 @@
 -- Binding a name keeps the text and the code in step.
-use Rattle.std.proofs.Common.{◌≡◌, ◌+◌, ◌<◌, ◌≤◌, ◌==◌, ℕ, zero, suc, Bool, true, false, List, [], ◌∷◌, ◌++◌, map, length, Option, Some, None, refl, sym, ap, ◌∙◌, arith, subst, bytes_eq, if◌then◌else◌}
+use Rattle.std.proofs.Common.{◌≡◌, ◌+◌, ◌<◌, ◌≤◌, ◌==◌, ℕ, suc, true, false, List, [], ◌∷◌, refl, sym, ap, ◌∙◌, arith, subst, bytes_eq, if◌then◌else◌}
 use Rattle.trees.specs.Trees.{Tree, Var}
 use Rattle.trees.specs.Judgements.{WithVar, WithName, WithFace}
-use Rattle.translation.specs.Scopes.{Scope, Variable, Interval, Face, Definition, context_of}
-use Rattle.translation.specs.Terms.{lifted, innermost}
+use Rattle.translation.specs.Scopes.{Scope, Variable, Interval, Face, Definition}
+use Rattle.translation.specs.Terms.{innermost}
 use Rattle.translation.specs.Names.{Word, Meaning, Term, Index, BuiltInName, Nothing, nearest as nearest_meaning, deeper as deeper_meaning}
 use Rattle.codes.specs.Codes.{body_of}
 use Rattle.scopes.specs.declared.names.Binding.{Binding}

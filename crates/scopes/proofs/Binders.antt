@@ -1,19 +1,17 @@
 -- Binders, and what is resolved under them.
-use Rattle.std.proofs.Common.{◌≡◌, ◌+◌, ◌-◌, drop, length-append, ◌<◌, ◌≤◌, ℕ, zero, suc, List, [], ◌∷◌, ◌++◌, map, length, replicate, Option, Some, None, refl, sym, ap, ◌∙◌, arith, subst, append_assoc}
+use Rattle.std.proofs.Common.{◌≡◌, ◌+◌, ◌-◌, drop, length-append, ◌≤◌, ℕ, List, [], ◌∷◌, ◌++◌, length, replicate, refl, sym, ap, ◌∙◌, arith, subst, append_assoc}
 use Rattle.std.proofs.Math.Seq.{drop-append_seam}
 use Rattle.trees.specs.Trees.{Tree}
 use Rattle.translation.specs.Terms.{lifted, plam}
-use Rattle.translation.specs.Scopes.{Scope, Variable, Interval, Definition, context_of}
-use Rattle.translation.specs.Translated.{Translated, Stated, done, states, ◌>>=◌, with, judgements_of, earlier}
-use Rattle.translation.specs.Forms.{Means, Binder, over, under, under_names, define, defined, after, two}
+use Rattle.translation.specs.Scopes.{Variable, Interval}
+use Rattle.translation.specs.Translated.{done, ◌>>=◌}
+use Rattle.translation.specs.Forms.{Means, Binder, over, under, under_names}
 use Rattle.translation.specs.Names.{Word}
 use Rattle.scopes.specs.declared.names.Binding.{Binding}
 use Rattle.scopes.specs.declared.names.Binding.TheVariants as binding
-use Rattle.scopes.specs.Finding.{Named}
-use Rattle.scopes.specs.Steps.{State, Progress, Agree, Moves, Same, Moving, Keeps, Resolves, Extends, Binds, BindsOver, Opens, bound_to, all_bound_to}
-use Rattle.codes.proofs.Logs.{then_same, then_assoc, then_done}
-use Rattle.scopes.proofs.Agreeing.{agree_variable, agree_interval, agree_definition, agree_after}
-use Rattle.scopes.proofs.Moving.{moves_done, moves_then, moves_same, moving_then, moving_done, moving_same, keeps_then, keeps_same}
+use Rattle.scopes.specs.Steps.{State, Progress, Same, Moving, Keeps, Resolves, Extends, Binds, BindsOver, bound_to, all_bound_to}
+use Rattle.scopes.proofs.Agreeing.{agree_variable, agree_interval}
+use Rattle.scopes.proofs.Moving.{moves_done, moves_then, moving_then}
 
 -- under variables of one type
 

@@ -1,19 +1,16 @@
 -- Definitions, and what is resolved after them.
-use Rattle.std.proofs.Common.{◌≡◌, ◌+◌, ◌-◌, ◌<◌, ◌≤◌, ◌&&◌, ◌||◌, not, ℕ, zero, suc, Bool, true, false, List, [], ◌∷◌, ◌++◌, map, length, drop, Option, Some, None, refl, sym, ap, ◌∙◌, arith, subst, bytes_eq, nat_lt, if◌then◌else◌}
+use Rattle.std.proofs.Common.{◌≡◌, ◌+◌, ◌-◌, ◌≤◌, ◌&&◌, ◌||◌, not, ℕ, suc, Bool, true, false, List, [], ◌∷◌, ◌++◌, length, drop, refl, sym, ap, ◌∙◌, arith, subst, bytes_eq, if◌then◌else◌}
 use Rattle.std.specs.Bool.{Decides}
 use Rattle.std.specs.List.{list_any}
 use Rattle.std.proofs.lemmas.Bool.Decides.{nat_tests}
 use Rattle.std.proofs.lemmas.Slice.Eq.{bytes_eq-Decides}
 use Rattle.trees.specs.Trees.{Tree}
 use Rattle.trees.specs.Judgements.{Context}
-use Rattle.trees.specs.Language.{Ty, Tm}
-use Rattle.translation.specs.declared.fault.Refusal.{Refusal}
 use Rattle.translation.specs.declared.fault.Cause.{Cause}
 use Rattle.translation.specs.declared.fault.Cause.TheVariants.{Twice}
 use Rattle.translation.specs.Scopes.{Scope, Definition, context_of}
-use Rattle.translation.specs.Translated.{Translated, Stated, done, refused, states, ◌>>=◌, judgements_of, earlier}
-use Rattle.translation.specs.Forms.{Means, Binder, define, defined, after, under}
-use Rattle.translation.specs.Terms.{pi, lam}
+use Rattle.translation.specs.Translated.{Translated, Stated, done, refused, states, ◌>>=◌, judgements_of}
+use Rattle.translation.specs.Forms.{Means, define}
 use Rattle.translation.specs.Names.{Word, is_nameless}
 use Rattle.translation.specs.Texts.{Written, word, once, block_after}
 use Rattle.codes.specs.Codes.{definition, definitions}
@@ -22,10 +19,10 @@ use Rattle.codes.proofs.Logs.{then_same, then_assoc, then_done, earlier_none, le
 use Rattle.scopes.specs.declared.names.Binding.TheVariants as binding
 use Rattle.scopes.specs.declared.names.Found.{Found}
 use Rattle.scopes.specs.declared.names.Found.TheVariants as found
-use Rattle.scopes.specs.Finding.{Named, nearest, find, bound, past}
-use Rattle.scopes.specs.Steps.{State, Progress, Agree, Moves, Same, Moving, Keeps, Resolves, Extends, Binds, Opens, Defines, Adds, after_defs, AreEarlier, bound_to, noted, checked, is_newer}
+use Rattle.scopes.specs.Finding.{nearest, find, bound}
+use Rattle.scopes.specs.Steps.{State, Progress, Agree, Moves, Same, Keeps, Resolves, Opens, Defines, Adds, after_defs, AreEarlier, bound_to, noted, checked, is_newer}
 use Rattle.scopes.proofs.Agreeing.{agree_definition, agree_after, IsFoundEarlier, nearest_earlier}
-use Rattle.scopes.proofs.Moving.{moves_done, moves_then, moves_same, moving_then, moving_done, keeps_then, keeps_same}
+use Rattle.scopes.proofs.Moving.{moves_done, moves_then, moves_same, keeps_same}
 use Rattle.scopes.proofs.Binders.{extends_then, extends_kept, keeps_cut}
 
 -- a text that is refused

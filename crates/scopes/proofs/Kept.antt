@@ -1,5 +1,5 @@
 -- The newest binding of a word, with the depth outside it, says what the word stands for.
-use Rattle.std.proofs.Common.{◌≡◌, ◌+◌, ◌-◌, ◌<◌, ◌≤◌, ℕ, zero, suc, Bool, true, false, List, [], ◌∷◌, map, Option, Some, None, refl, sym, ap, ◌∙◌, arith, subst, bytes_eq, if◌then◌else◌}
+use Rattle.std.proofs.Common.{◌≡◌, ◌-◌, ◌<◌, ℕ, suc, true, false, List, [], ◌∷◌, map, Option, Some, None, refl, ap, ◌∙◌, arith, subst, bytes_eq, if◌then◌else◌}
 use Rattle.translation.specs.Names.{Word, Meaning, Term, Index, BuiltInName, Nothing, built_in_name, is_nameless}
 use Rattle.scopes.specs.declared.names.Binding.{Binding}
 use Rattle.scopes.specs.declared.names.Binding.TheVariants as binding
@@ -7,7 +7,7 @@ use Rattle.scopes.specs.declared.names.Bound.{Bound}
 use Rattle.scopes.specs.declared.names.Entry.{Entry}
 use Rattle.scopes.specs.declared.names.Found.{Found}
 use Rattle.scopes.specs.declared.names.Found.TheVariants as found
-use Rattle.scopes.specs.Finding.{Named, nearest, find, deeper, past, bound, outermost}
+use Rattle.scopes.specs.Finding.{nearest, find, deeper, past, bound, outermost}
 use Rattle.scopes.specs.Linked.{named, under, depth_of, newest, IsLinked}
 
 -- a binding that was made at that level, seen at the depth

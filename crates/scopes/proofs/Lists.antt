@@ -1,14 +1,14 @@
 -- Components, and what a head is applied to, one after another.
-use Rattle.std.proofs.Common.{◌≡◌, ◌+◌, ◌<◌, ◌≤◌, ℕ, zero, suc, List, [], ◌∷◌, ◌++◌, map, length, refl, sym, ap, ◌∙◌, arith, subst}
+use Rattle.std.proofs.Common.{◌≡◌, ◌+◌, ℕ, List, [], ◌∷◌, ◌++◌, map, refl, sym, ap, ◌∙◌, subst}
 use Rattle.trees.specs.Trees.{Tree}
 use Rattle.translation.specs.Scopes.{Scope}
 use Rattle.translation.specs.Terms.{universe, pair, app, papp}
-use Rattle.translation.specs.Translated.{Translated, done, ◌>>=◌}
-use Rattle.translation.specs.Forms.{Means, Element, Argument, At, all, tuple, apply_all, application, side, Side, system}
+use Rattle.translation.specs.Translated.{done, ◌>>=◌}
+use Rattle.translation.specs.Forms.{Means, Element, Argument, At, all, tuple, apply_all, application}
 use Rattle.translation.specs.Names.{Word}
 use Rattle.codes.proofs.Logs.{map_append, then_done, then_assoc, then_same}
-use Rattle.scopes.specs.Steps.{State, Progress, Agree, Moves, Same, Moving, Keeps, Resolves}
-use Rattle.scopes.proofs.Moving.{moving_then, moving_done, keeps_then, keeps_same, resolves_one, resolves_same, resolves_done, resolves_all_more}
+use Rattle.scopes.specs.Steps.{State, Resolves}
+use Rattle.scopes.proofs.Moving.{moving_then, keeps_then, resolves_one, resolves_same, resolves_all_more}
 
 -- pairs nested to the right
 abbrev nested : List Tree → Tree

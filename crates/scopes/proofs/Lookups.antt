@@ -1,16 +1,16 @@
 -- What a name stands for, in the text and in the code.
-use Rattle.std.proofs.Common.{◌≡◌, ◌+◌, ◌<◌, ◌≤◌, ℕ, zero, suc, Bool, true, false, List, [], ◌∷◌, map, refl, sym, ap, ◌∙◌, arith, subst, slice_range, if◌then◌else◌}
+use Rattle.std.proofs.Common.{◌≡◌, ℕ, true, false, List, refl, sym, ap, ◌∙◌, if◌then◌else◌}
 use Rattle.layout_lexer.specs.declared.token.Span.{Span}
 use Rattle.trees.specs.Trees.{Tree, Var}
 use Rattle.translation.specs.Scopes.{Scope}
-use Rattle.translation.specs.Translated.{Translated, done, ◌>>=◌, with}
+use Rattle.translation.specs.Translated.{with}
 use Rattle.translation.specs.Forms.{Means}
-use Rattle.translation.specs.Names.{Word, Meaning, Nothing, meaning, is_nameless, as_term, as_name, nearest as nearest_meaning}
+use Rattle.translation.specs.Names.{Word, Nothing, meaning, is_nameless, as_term, as_name, nearest as nearest_meaning}
 use Rattle.translation.specs.Texts.{word, term_at, name_at}
 use Rattle.scopes.specs.declared.names.Found.{Found}
 use Rattle.scopes.specs.declared.names.Found.TheVariants as found
 use Rattle.scopes.specs.Finding.{nearest, find}
-use Rattle.scopes.specs.Steps.{State, Progress, Agree, Moves, Same, Moving, Keeps, Resolves, meant}
+use Rattle.scopes.specs.Steps.{State, Agree, Moves, Same, Keeps, Resolves, meant}
 use Rattle.scopes.proofs.Moving.{moves_same}
 
 pub find_agrees : (s : State) (G : Scope Word) (H : Scope ℕ) (x : Word) → Agree s G H → meaning G x ≡ meant H (find s.names x)

@@ -1,14 +1,13 @@
 -- Texts in order, and the forms that are made of them.
-use Rattle.std.proofs.Common.{◌≡◌, ◌+◌, ◌<◌, ◌≤◌, ℕ, zero, suc, List, [], ◌∷◌, ◌++◌, map, length, Option, Some, None, refl, sym, ap, ◌∙◌, arith, subst, append_assoc}
+use Rattle.std.proofs.Common.{◌≡◌, ◌+◌, ℕ, zero, suc, List, [], ◌∷◌, ◌++◌, map, length, refl, sym, ap, ◌∙◌, arith, subst}
 use Rattle.trees.specs.Trees.{Tree}
-use Rattle.translation.specs.declared.fault.Refusal.{Refusal}
 use Rattle.translation.specs.Scopes.{Scope, Face}
-use Rattle.translation.specs.Systems.{On, on, meet_of}
-use Rattle.translation.specs.Translated.{Translated, Stated, done, refused, states, ◌>>=◌, with, judgements_of, earlier}
-use Rattle.translation.specs.Forms.{Means, all, one, two, side}
+use Rattle.translation.specs.Systems.{on, meet_of}
+use Rattle.translation.specs.Translated.{Translated, Stated, done, ◌>>=◌, judgements_of, earlier}
+use Rattle.translation.specs.Forms.{Means, all, side}
 use Rattle.translation.specs.Names.{Word}
-use Rattle.scopes.specs.Steps.{State, Progress, Agree, Moves, Same, Moving, Keeps, Resolves, count_from}
-use Rattle.codes.proofs.Logs.{judgements_append, map_append, length_append, earlier_assoc, earlier_none, then_done, then_assoc, then_same}
+use Rattle.scopes.specs.Steps.{State, Progress, Moves, Same, Moving, Keeps, Resolves, count_from}
+use Rattle.codes.proofs.Logs.{judgements_append, map_append, length_append, earlier_assoc, earlier_none, then_assoc, then_same}
 use Rattle.scopes.proofs.Agreeing.{agree_after, agree_face}
 
 -- numbers in a row

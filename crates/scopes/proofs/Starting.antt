@@ -1,6 +1,5 @@
 -- The names of other modules stand for the same in the text and in the code.
 use Rattle.std.proofs.Common.{◌≡◌, ℕ, Bool, true, false, List, [], ◌∷◌, map, refl, sym, ◌∙◌, bytes_eq, codes, if◌then◌else◌}
-use Rattle.trees.specs.Trees.{Tree}
 use Rattle.trees.specs.Judgements.{Nil}
 use Rattle.translation.specs.Scopes.{Scope, Definition, context_of}
 use Rattle.translation.specs.Names.{Word, Meaning, Term, BuiltInName, Nothing, nearest as nearest_meaning, built_in_name}
@@ -10,7 +9,7 @@ use Rattle.codes.specs.Codes.{body_of}
 use Rattle.scopes.specs.declared.names.Found.TheVariants as found
 use Rattle.scopes.specs.declared.scope.ScopeName.{ScopeName}
 use Rattle.scopes.specs.Finding.{nearest, outermost}
-use Rattle.scopes.specs.Steps.{State, Progress, Agree, meant, AreEarlier, named_of}
+use Rattle.scopes.specs.Steps.{Progress, Agree, meant, AreEarlier, named_of}
 
 -- a word that stands for something built in, or for nothing
 IsOutermost : Scope ℕ → Meaning → Type 0

@@ -1,5 +1,5 @@
 -- What the names in scope stand for.
-use Rattle.std.specs.Prelude.{ℕ, suc, List, [], ◌∷◌, bytes_eq, if◌then◌else◌}
+use Rattle.std.specs.Prelude.{suc, List, [], ◌∷◌, bytes_eq, if◌then◌else◌}
 use Rattle.translation.specs.Names.{Word, Meaning, BuiltInName, built_in_name, is_nameless}
 use Rattle.scopes.specs.declared.names.Binding.{Binding}
 use Rattle.scopes.specs.declared.names.Binding.TheVariants as binding

@@ -1,5 +1,5 @@
 -- How names are kept, so that they are found by one search.
-use Rattle.std.specs.Prelude.{◌≡◌, ℕ, suc, List, [], ◌∷◌, map, bytes_eq, if◌then◌else◌}
+use Rattle.std.specs.Prelude.{◌≡◌, ℕ, suc, List, [], ◌∷◌, bytes_eq, if◌then◌else◌}
 use Rattle.std.specs.Prelude.{Option, Some, None}
 use Rattle.translation.specs.Names.{Word}
 use Rattle.scopes.specs.declared.names.Binding.{Binding}

@@ -91,8 +91,8 @@ pub data MayCheck (name : List ℕ) (old new : SeenFiles) (told : Outcome) : Typ
       → MayCheck name old new told
   not_direct : NotDirect old.held name told → StoresNothing old new → MayCheck name old new told
   derived : (bytes : List ℕ) (count : ℕ) → IsDerived old.held name bytes count
-      → (answer : Stored) → IsStored name bytes old new answer → told_stored count answer ≡ Some told
-      → MayCheck name old new told
+      → (answer : Stored) → IsStored name bytes old new answer
+      → told_stored count answer ≡ Some told → MayCheck name old new told
 
 -- What a check may leave, also where it is out of memory: what was there, or what a store of the
 -- whole derivation leaves.

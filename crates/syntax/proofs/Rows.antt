@@ -3,7 +3,6 @@ use Rattle.std.proofs.Common.{◌≡◌, List, [], ◌∷◌, ◌++◌, Vec, Glo
 use mathlib.Core.Former.{Count}
 use Rattle.layout_lexer.specs.declared.token.Span.{Span}
 use Rattle.syntax.specs.declared.exp.Exp.{Exp, Brackets as Brackets_, Brackets', Apply as Apply_, Apply', Row_of-Exp, end_of-Exp, more_of-Exp, items-the_row-Exp, items_hidden-the_row-Exp-1, Row_of-Element, end_of-Element, more_of-Element, items-the_row-Element, items_hidden-the_row-Element-0}
-use Rattle.syntax.specs.declared.exp.Element.{Element}
 use Rattle.syntax.specs.declared.exp.Exps.{Exps}
 use Rattle.syntax.specs.declared.exp.Elements.{Elements}
 use Rattle.syntax.specs.declared.exp.Tele.{Tele as TeleOf}
@@ -12,7 +11,7 @@ use Rattle.syntax.specs.declared.exp.Def.{Def as DefOf}
 use Rattle.syntax.specs.declared.exp.Teles.{Teles, Teles', Row_of-Tele, end_of-Tele, more_of-Tele, items-the_row-Tele, items_hidden-the_row-Tele-4, out-Teles, roll-Teles, roll-out-Teles}
 use Rattle.syntax.specs.declared.exp.Sides.{Sides, Sides', Row_of-Side, end_of-Side, more_of-Side, items-the_row-Side, items_hidden-the_row-Side-3, out-Sides, roll-Sides, roll-out-Sides}
 use Rattle.syntax.specs.declared.exp.Defs.{Defs, Defs', Row_of-Def, end_of-Def, more_of-Def, items-the_row-Def, items_hidden-the_row-Def-2, out-Defs, roll-Defs, roll-out-Defs}
-use Rattle.syntax.specs.Tree.{Tree, Apply, Brackets, Trees, none, more, and, with, Tele, Side}
+use Rattle.syntax.specs.Tree.{Tree, Apply, Brackets, more, with, Tele, Side}
 use Rattle.syntax.specs.View.{tree_of, exps_in, element_of, elements_in, elements_of, exps_of, tele_of, teles_of, teles_in, side_of, sides_of, sides_in, def_of, defs_of, defs_in, tree_list}
 
 exps_row : (n : _) (row : Row_of-Exp n) → exps_in row ≡ tree_list tree_of (items-the_row-Exp n row)

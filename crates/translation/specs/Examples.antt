@@ -2,7 +2,6 @@
 use Rattle.std.specs.Prelude.{◌≡◌, ℕ, List, [], ◌∷◌, map, codes, Some}
 use Rattle.layout_lexer.specs.declared.token.Span.{Span}
 use Rattle.syntax.specs.declared.formula.End.TheVariants as end
-use Rattle.syntax.specs.declared.formula.Equation.{Equation}
 use Rattle.syntax.specs.Tree as text
 use Rattle.trees.specs.Trees.{Tree, Var}
 use Rattle.translation.specs.declared.fault.Cause.TheVariants.{Unbound, GlueSide}

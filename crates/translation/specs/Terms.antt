@@ -1,7 +1,7 @@
 -- Trees by their operators, and what is done to them.
-use Rattle.std.specs.Prelude.{List, [], ◌∷◌}
+use Rattle.std.specs.Prelude.{[], ◌∷◌}
 use Rattle.trees.specs.declared.op.Op.TheVariants as op
-use Rattle.trees.specs.Trees.{Tree, Var, Make, trees_of, Subst, apply, apply_under, push, up}
+use Rattle.trees.specs.Trees.{Tree, Var, Make, trees_of, apply, apply_under, up}
 
 -- the innermost variable or name
 abbrev pub innermost : Tree

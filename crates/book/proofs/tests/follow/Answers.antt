@@ -1,5 +1,4 @@
 use Rattle.std.proofs.Common.{◌∙◌, ap, take, length, arith}
-use Rattle.trees.specs.Claims.{rows_of}
 use Rattle.book.proofs.TestLaws.{follows-within, follows-along, follows-shifts}
 use Rattle.book.proofs.tests.follow.Goals as goal
 

@@ -1,4 +1,3 @@
-use Rattle.trees.specs.Trees.{Tree}
 use Rattle.trees.specs.Judgements.{Nil, trees}
 use Rattle.trees.specs.Language.{Ctx, Ty, Tm}
 use Rattle.rules.specs.Table.{nat, universe}

@@ -1,4 +1,4 @@
-use Rattle.std.proofs.Common.{◌≡◌, ◌∙◌, [], ◌∷◌, length, take, refl, sym, ap, arith}
+use Rattle.std.proofs.Common.{◌≡◌, ◌∙◌, length, take, refl, ap, arith}
 use Rattle.std.proofs.lemmas.List.{length-take-le}
 use Rattle.theory.specs.declared.rule.RuleName.TheVariants.{Naturals}
 use Rattle.theory.specs.declared.rule.NatRule.TheVariants.{Suc}

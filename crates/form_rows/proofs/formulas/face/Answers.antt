@@ -1,5 +1,5 @@
 use Rattle.std.proofs.Common.{arith}
-use Rattle.form_rows.proofs.FaceLaws.{faced_more, faced_all}
+use Rattle.form_rows.proofs.FaceLaws.{faced_more}
 use Rattle.form_rows.proofs.formulas.face.Goals as goal
 
 pub loop-each-preserved : goal.loop-each-preserved

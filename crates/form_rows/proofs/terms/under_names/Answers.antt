@@ -1,4 +1,4 @@
-use Rattle.std.proofs.Common.{refl, arith, subst, sym}
+use Rattle.std.proofs.Common.{refl}
 use Rattle.trees.specs.declared.op.Op.TheVariants as op
 use Rattle.form_rows.proofs.RowLaws.{one_fits}
 use Rattle.form_rows.proofs.SystemLaws.{lambdas_none, lambdas_more}

@@ -1,9 +1,8 @@
-use Rattle.std.proofs.Common.{◌≡◌, ◌∙◌, sym, None, ◌<◌, length, take, arith}
+use Rattle.std.proofs.Common.{◌≡◌, ◌∙◌, sym, ◌<◌, length, take, arith}
 use Rattle.std.proofs.lemmas.List.{take_all, length-map}
 use Rattle.layout_lexer.specs.declared.token.Token.{Token}
 use Rattle.layout_lexer.specs.declared.token.Kind.TheVariants.{Open}
 use Rattle.productions.specs.Words.{piece_of, pieces}
-use Rattle.grammar.specs.Faults.{first_refused as refused_place}
 use Rattle.grammar.proofs.Ends.{refused_found, refused_take}
 use Rattle.grammar.proofs.reading.first_refused.Goals as goal
 

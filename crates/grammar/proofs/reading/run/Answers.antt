@@ -1,10 +1,10 @@
-use Rattle.std.proofs.Common.{◌≡◌, ◌∙◌, ap, ℕ, List, [], ◌∷◌, ◌++◌, Option, Some, None, ◌<◌, ◌+◌, length, take, get_or, arith}
+use Rattle.std.proofs.Common.{◌≡◌, ◌∙◌, ap, [], ◌<◌, length, take, get_or, arith}
 use Rattle.std.proofs.lemmas.List.{take_all, length-map}
 use Rattle.layout_lexer.specs.declared.token.Token.{Token}
 use Rattle.layout_lexer.specs.declared.token.Kind.TheVariants.{Open}
 use Rattle.productions.specs.Words.{piece_of, pieces}
 use Rattle.productions.specs.Grammar.{nothing}
-use Rattle.productions.specs.Machine.{State, and_step, run, to}
+use Rattle.productions.specs.Machine.{and_step, run, to}
 use Rattle.parser_states.specs.View.{top_of, view}
 use Rattle.productions.proofs.Exact.{run_more}
 use Rattle.grammar.proofs.Ends.{end_outcome, more_pieces, step_outcome}

@@ -4,7 +4,7 @@ use Rattle.book.specs.Contents.{Contents}
 use Rattle.book.specs.Shown.{book_means, book_concludes}
 use Rattle.recipes.specs.Derivations.{Derives, conclusions_at}
 use Rattle.recipe_runner.specs.Running.{MayRun}
-use Rattle.kan_tests.specs.Fillings.{contracted_statement, contraction_parts, before_last, earlier}
+use Rattle.kan_tests.specs.Fillings.{contracted_statement, before_last, earlier}
 use Rattle.kan_tests.specs.declared.contr_variable.TheConstants.{CONTR_VARIABLE, CONTR_VARIABLE_PREMISES}
 use Rattle.book_tests.proofs.RunLaws.{may-try}
 use Rattle.kan_tests.proofs.TestLaws.{may-contract, some-nodes, conclusions-later}

@@ -4,7 +4,7 @@ use Rattle.book.specs.Contents.{Contents}
 use Rattle.book.specs.Shown.{book_means, book_concludes}
 use Rattle.recipes.specs.Derivations.{Derives, conclusions_at}
 use Rattle.recipe_runner.specs.Running.{MayRun}
-use Rattle.kan_tests.specs.Fillings.{raised_statement, extension_parts, before_last, earlier}
+use Rattle.kan_tests.specs.Fillings.{raised_statement, before_last, earlier}
 use Rattle.kan_tests.specs.declared.equiv_variable.TheConstants.{EQUIV_VARIABLE, EQUIV_VARIABLE_PREMISES}
 use Rattle.book_tests.proofs.RunLaws.{may-try}
 use Rattle.kan_tests.proofs.TestLaws.{may-extend, some-nodes, conclusions-later}

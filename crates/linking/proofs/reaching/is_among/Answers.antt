@@ -1,5 +1,4 @@
-use Rattle.std.proofs.Common.{◌≡◌, ◌+◌, bytes_eq, map, take, true, sym, ◌∙◌, ap}
-use Rattle.std.specs.Prelude.{string_bytes}
+use Rattle.std.proofs.Common.{sym, ◌∙◌}
 use Rattle.linking.proofs.ReachLaws.{any_found}
 use Rattle.linking.proofs.reaching.is_among.Goals as goal
 

@@ -1,4 +1,4 @@
-use Rattle.std.proofs.Common.{rules, ◌≡◌, ◌++◌, ◌∷◌, [], length, take, drop, slice_index_or, refl, sym, ◌∙◌, ap, subst}
+use Rattle.std.proofs.Common.{rules, ◌≡◌, ◌++◌, length, take, drop, slice_index_or, refl, sym, ◌∙◌, ap, subst}
 use Rattle.linking.specs.Reaching.{either}
 use Rattle.linking.proofs.ReachLaws.{Goes, either_length, goes_end, goes_on, goes_without, written_whole}
 use Rattle.linking.proofs.reaching.reached.Goals as goal

@@ -1,4 +1,4 @@
-use Rattle.std.proofs.Common.{◌≡◌, ◌∙◌}
+use Rattle.std.proofs.Common.{◌∙◌}
 use Rattle.syntax.specs.View.{sides_of, side_of}
 use Rattle.parser_states.proofs.Keeping.{keep_none, keep_some}
 use Rattle.parser_states.proofs.lists.keep_side.Goals as goal

@@ -1,4 +1,3 @@
-use Rattle.std.proofs.Common.{◌≡◌}
 use Rattle.codes.specs.Shapes.{shape}
 use Rattle.codes.proofs.ShapeRows.{some_items}
 use Rattle.readings.proofs.Shaping.{after_block}

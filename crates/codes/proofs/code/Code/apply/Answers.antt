@@ -1,4 +1,4 @@
-use Rattle.std.proofs.Common.{◌≡◌, ap, ◌∙◌, map}
+use Rattle.std.proofs.Common.{ap, ◌∙◌, map}
 use Rattle.translation.specs.Forms.{application}
 use Rattle.codes.specs.Codes.{meaning, element}
 use Rattle.codes.proofs.Rows.{meaning_of-Apply}

@@ -1,4 +1,4 @@
-use Rattle.std.proofs.Common.{◌≡◌, ap, ◌∙◌, map}
+use Rattle.std.proofs.Common.{ap, ◌∙◌, map}
 use Rattle.translation.specs.Forms.{composition}
 use Rattle.codes.specs.Codes.{meaning, at_name, line_side}
 use Rattle.codes.proofs.Rows.{meaning_of-Comp}

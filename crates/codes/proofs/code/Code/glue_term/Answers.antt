@@ -1,4 +1,4 @@
-use Rattle.std.proofs.Common.{◌≡◌, ap, ◌∙◌, map}
+use Rattle.std.proofs.Common.{ap, ◌∙◌, map}
 use Rattle.translation.specs.Forms.{glue_of_terms}
 use Rattle.codes.specs.Codes.{meaning, term_side}
 use Rattle.codes.proofs.Rows.{meaning_of-GlueTerm}

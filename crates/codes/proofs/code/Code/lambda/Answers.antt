@@ -1,4 +1,4 @@
-use Rattle.std.proofs.Common.{◌≡◌, ap, ◌∙◌, map}
+use Rattle.std.proofs.Common.{ap, ◌∙◌, map}
 use Rattle.translation.specs.Forms.{under}
 use Rattle.translation.specs.Terms.{lam}
 use Rattle.codes.specs.Codes.{meaning, binder}

@@ -1,4 +1,4 @@
-use Rattle.std.proofs.Common.{◌≡◌, ap, ◌∙◌, map}
+use Rattle.std.proofs.Common.{ap, ◌∙◌}
 use Rattle.translation.specs.Forms.{after}
 use Rattle.codes.specs.Codes.{meaning, definitions}
 use Rattle.codes.proofs.Rows.{meaning_of-Let}

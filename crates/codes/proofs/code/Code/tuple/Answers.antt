@@ -1,6 +1,4 @@
-use Rattle.std.proofs.Common.{◌≡◌, ap, ◌∙◌, map}
 use Rattle.codes.proofs.Rows.{meaning_of-Tuple}
-use Rattle.codes.specs.Shapes.{shape}
 use Rattle.codes.proofs.ShapeRows.{tuple_shape}
 use Rattle.codes.proofs.code.Code.tuple.Goals as goal
 

@@ -1,4 +1,3 @@
-use Rattle.std.proofs.Common.{◌≡◌, ap, ◌∙◌, map}
 use Rattle.codes.proofs.Rows.{definition_of}
 use Rattle.codes.proofs.ShapeRows.{shape_of_def}
 use Rattle.codes.proofs.code.CodeDef.new.Goals as goal

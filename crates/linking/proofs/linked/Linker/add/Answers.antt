@@ -2,7 +2,6 @@ use Rattle.std.proofs.Common.{length, sym, ◌∙◌, ap, subst}
 use Rattle.syntax.specs.View.{module_of}
 use Rattle.module_texts.specs.Texts.{imports_of}
 use Rattle.resolver.specs.Resolved.{AreCodes, AreSpelt, IsFaultOf}
-use Rattle.linking.specs.Reaching.{Sees}
 use Rattle.linking.proofs.LinkLaws.{kept_length, links, refused_next, scope_earlier, seen_of}
 use Rattle.linking.proofs.linked.Linker.add.Goals as goal
 

@@ -1,4 +1,4 @@
-use Rattle.std.proofs.Common.{◌≡◌, ap, sym, ◌∙◌}
+use Rattle.std.proofs.Common.{ap, sym, ◌∙◌}
 use Rattle.syntax.specs.View.{formula_of}
 use Rattle.codes.specs.FormulaShapes as shape
 use Rattle.codes.specs.FormulaShapes.{formula_shape}

@@ -1,4 +1,4 @@
-use Rattle.std.proofs.Common.{◌≡◌, ◌+◌, ◌<◌, take, get_or, length, arith}
+use Rattle.std.proofs.Common.{◌+◌, ◌<◌, take, get_or, length, arith}
 use Rattle.std.proofs.lemmas.List.{take_more}
 use Rattle.syntax.specs.declared.formula.End.TheVariants as end
 use Rattle.syntax.specs.declared.formula.Equation.{Equation}

@@ -1,4 +1,4 @@
-use Rattle.std.proofs.Common.{◌≡◌, refl, sym, ap, ◌∙◌}
+use Rattle.std.proofs.Common.{refl, sym, ap, ◌∙◌}
 use Rattle.trees.specs.Trees.{Var}
 use Rattle.translation.specs.declared.fault.Cause.TheVariants as cause
 use Rattle.translation.specs.declared.built_in.BuiltIn.TheVariants as built_in

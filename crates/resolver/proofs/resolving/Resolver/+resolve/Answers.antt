@@ -21,7 +21,8 @@ use Rattle.scopes.specs.Finding.{find}
 use Rattle.scopes.specs.Steps.{Resolves, bound_to}
 use Rattle.scopes.specs.declared.names.Found.TheVariants as found
 use Rattle.translation.specs.declared.built_in.BuiltIn.TheVariants as built_in
-use Rattle.readings.proofs.Shaping.{made, let_tree, lambda_tree, pi_tree, sigma_tree, path_lambda_tree, arrow_tree, apply_tree, path_type_tree, comp_tree, fill_tree, transport_tree, glue_type_tree, glue_term_tree, unglue_tree, project_tree, under_names, line_at, named_term, universe_term, name_term, brackets_term, tuple_spelt, suc_applied, natrec_applied, argument_spelt, at_spelt, brackets_seen, path_seen, line_seen, motive_seen, line_wrapped, motive_wrapped, pair_wrapped, several_line_spelt, several_motive_spelt, names_motive_spelt, none_pair_spelt, names_pair_spelt, written_line_spelt, bare_motive_spelt, opened_motive_spelt, several_pair_spelt, def_spelt, terms_spelt_none, terms_spelt_more, elements_spelt_none, elements_spelt_more, binders_spelt_none, binders_spelt_more, defs_spelt_none, defs_spelt_more, sides_spelt_none, sides_spelt_more, line_sides_spelt_none, line_sides_spelt_more, pair_sides_spelt_none, pair_sides_spelt_more, term_among, line_among, pair_among, element_among, terms_among, elements_among, sides_among, line_sides_among, pair_sides_among, names_bound, first_bound, equations_among, applied_term, plain_made, few_applied, other_applied, other_motive_spelt, nameless_motive_spelt}
+use Rattle.readings.proofs.Shaping.{made, under_names, line_at, named_term, universe_term, name_term, brackets_term, tuple_spelt, suc_applied, natrec_applied, argument_spelt, at_spelt, brackets_seen, path_seen, line_seen, motive_seen, line_wrapped, motive_wrapped, pair_wrapped, several_line_spelt, several_motive_spelt, names_motive_spelt, none_pair_spelt, names_pair_spelt, written_line_spelt, bare_motive_spelt, opened_motive_spelt, several_pair_spelt, def_spelt, terms_spelt_none, terms_spelt_more, elements_spelt_none, elements_spelt_more, binders_spelt_none, binders_spelt_more, defs_spelt_none, defs_spelt_more, sides_spelt_none, sides_spelt_more, line_sides_spelt_none, line_sides_spelt_more, pair_sides_spelt_none, pair_sides_spelt_more, term_among, line_among, pair_among, element_among, terms_among, elements_among, sides_among, line_sides_among, pair_sides_among, names_bound, first_bound, equations_among, applied_term, plain_made, few_applied, other_applied, other_motive_spelt, nameless_motive_spelt}
+use Rattle.readings.proofs.TextTrees.{let_tree, lambda_tree, pi_tree, sigma_tree, path_lambda_tree, arrow_tree, apply_tree, path_type_tree, comp_tree, fill_tree, transport_tree, glue_type_tree, glue_term_tree, unglue_tree, project_tree}
 use Rattle.resolver.proofs.resolving.Resolver.+resolve.Goals as goal
 
 -- texts that bind names

@@ -1,4 +1,4 @@
-use Rattle.std.proofs.Common.{◌≡◌, ◌<◌, length, arith}
+use Rattle.std.proofs.Common.{◌<◌, length, arith}
 use Rattle.std.proofs.lemmas.List.{length-drop}
 use Rattle.scopes.proofs.Unbinding.{cut_more}
 use Rattle.scopes.proofs.names.Names.cut.Goals as goal

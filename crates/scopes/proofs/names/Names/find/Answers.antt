@@ -1,8 +1,8 @@
-use Rattle.std.proofs.Common.{◌≡◌, ◌-◌, ◌≤◌, ◌<◌, ◌∙◌, ap, sym, subst, map, reverse, Some, None, false, arith, rules}
+use Rattle.std.proofs.Common.{◌≡◌, ◌-◌, ◌<◌, ◌∙◌, ap, sym, subst, reverse, Some, None, false, arith, rules}
 use Rattle.translation.specs.Names.{is_nameless}
 use Rattle.scopes.specs.declared.names.Found.TheVariants as found
 use Rattle.scopes.specs.Finding.{find}
-use Rattle.scopes.specs.Linked.{named, newest, depth_of}
+use Rattle.scopes.specs.Linked.{newest, depth_of}
 use Rattle.scopes.proofs.Kept.{found_bound, found_none, newest_below, seen, IsBelow}
 use Rattle.scopes.proofs.names.Names.find.Goals as goal
 

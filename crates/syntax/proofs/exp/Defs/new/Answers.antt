@@ -1,4 +1,4 @@
-use Rattle.std.proofs.Common.{◌≡◌, ◌∙◌, ap}
+use Rattle.std.proofs.Common.{◌∙◌, ap}
 use Rattle.syntax.specs.View.{def_of, tree_list}
 use Rattle.syntax.proofs.Rows.{defs_of_roll}
 use Rattle.syntax.proofs.exp.Defs.new.Goals as goal

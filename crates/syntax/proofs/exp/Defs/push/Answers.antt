@@ -1,6 +1,6 @@
-use Rattle.std.proofs.Common.{◌≡◌, ◌∙◌, ap, sym}
+use Rattle.std.proofs.Common.{◌∙◌, ap, sym}
 use Rattle.syntax.specs.Tree.{with}
-use Rattle.syntax.specs.View.{def_of, defs_of, tree_list}
+use Rattle.syntax.specs.View.{def_of, tree_list}
 use Rattle.syntax.specs.declared.exp.Defs.{out-Defs}
 use Rattle.syntax.proofs.Rows.{defs_of_roll, defs_of_items, list_push, always_on_err}
 use Rattle.syntax.proofs.exp.Defs.push.Goals as goal

@@ -1,4 +1,4 @@
-use Rattle.std.proofs.Common.{◌≡◌, ◌∙◌, ap}
+use Rattle.std.proofs.Common.{◌∙◌, ap}
 use Rattle.syntax.specs.View.{element_of, tree_list}
 use Rattle.syntax.proofs.Rows.{list_push}
 use Rattle.syntax.proofs.exp.Elements.push.Goals as goal

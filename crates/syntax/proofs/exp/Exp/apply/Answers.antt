@@ -1,4 +1,4 @@
-use Rattle.std.proofs.Common.{◌≡◌, ap, ◌∙◌}
+use Rattle.std.proofs.Common.{ap, ◌∙◌}
 use Rattle.syntax.specs.Tree.{Apply}
 use Rattle.syntax.specs.View.{tree_of, elements_of}
 use Rattle.syntax.proofs.Rows.{tree_of_apply}

@@ -1,4 +1,4 @@
-use Rattle.std.proofs.Common.{◌≡◌, ◌∙◌, ap}
+use Rattle.std.proofs.Common.{◌∙◌, ap}
 use Rattle.syntax.specs.View.{side_of, tree_list}
 use Rattle.syntax.proofs.Rows.{sides_of_roll}
 use Rattle.syntax.proofs.exp.Sides.new.Goals as goal

@@ -1,6 +1,6 @@
-use Rattle.std.proofs.Common.{◌≡◌, ◌∙◌, ap, sym}
+use Rattle.std.proofs.Common.{◌∙◌, ap, sym}
 use Rattle.syntax.specs.Tree.{with}
-use Rattle.syntax.specs.View.{side_of, sides_of, tree_list}
+use Rattle.syntax.specs.View.{side_of, tree_list}
 use Rattle.syntax.specs.declared.exp.Sides.{out-Sides}
 use Rattle.syntax.proofs.Rows.{sides_of_roll, sides_of_items, list_push, always_on_err}
 use Rattle.syntax.proofs.exp.Sides.push.Goals as goal

@@ -1,4 +1,4 @@
-use Rattle.std.proofs.Common.{◌≡◌, ◌∙◌, ap}
+use Rattle.std.proofs.Common.{◌∙◌, ap}
 use Rattle.syntax.specs.View.{tele_of, tree_list}
 use Rattle.syntax.proofs.Rows.{teles_of_roll}
 use Rattle.syntax.proofs.exp.Teles.new.Goals as goal

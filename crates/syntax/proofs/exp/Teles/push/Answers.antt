@@ -1,6 +1,6 @@
-use Rattle.std.proofs.Common.{◌≡◌, ◌∙◌, ap, sym}
+use Rattle.std.proofs.Common.{◌∙◌, ap, sym}
 use Rattle.syntax.specs.Tree.{with}
-use Rattle.syntax.specs.View.{tele_of, teles_of, tree_list}
+use Rattle.syntax.specs.View.{tele_of, tree_list}
 use Rattle.syntax.specs.declared.exp.Teles.{out-Teles}
 use Rattle.syntax.proofs.Rows.{teles_of_roll, teles_of_items, list_push, always_on_err}
 use Rattle.syntax.proofs.exp.Teles.push.Goals as goal
