@@ -182,13 +182,28 @@ fn faces_hold(rt: HostRuntime) -> Result<(), AllocError> {
     Ok(())
 }
 
+/// The face of a name at an end.
+fn at_end(alloc: Global, name: u64, end: bool) -> Result<Face, AllocError> {
+    let form = Form::name(alloc, name)?;
+    Face::eq(alloc, &form, end)
+}
+
+/// The one name is at 0 and the other one at 1.
+fn turn(alloc: Global, low: u64, high: u64) -> Result<Face, AllocError> {
+    let high = at_end(alloc, high, true)?;
+    at_end(alloc, low, false)?.meet(&high)
+}
+
+fn joined(left: Face, right: Face) -> Result<Face, AllocError> {
+    left.join(&right)
+}
+
 /// The names 0 to 11 in a circle: one of them is at 0 and the next one at 1.
 fn circle(alloc: Global) -> Result<Face, AllocError> {
     let mut face = Face::bottom(alloc)?;
     for name in 0..12u64 {
-        let low = Face::eq(alloc, &Form::name(alloc, name)?, false)?;
-        let high = Face::eq(alloc, &Form::name(alloc, (name + 1) % 12)?, true)?;
-        face = face.join(&low.meet(&high)?)?;
+        let next = turn(alloc, name, (name + 1) % 12)?;
+        face = joined(face, next)?;
     }
     Ok(face)
 }
@@ -197,7 +212,8 @@ fn circle(alloc: Global) -> Result<Face, AllocError> {
 fn some_zero(alloc: Global) -> Result<Face, AllocError> {
     let mut face = Face::bottom(alloc)?;
     for name in 0..12u64 {
-        face = face.join(&Face::eq(alloc, &Form::name(alloc, name)?, false)?)?;
+        let next = at_end(alloc, name, false)?;
+        face = joined(face, next)?;
     }
     Ok(face)
 }

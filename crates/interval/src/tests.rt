@@ -106,11 +106,16 @@ fn names_are_replaced(rt: HostRuntime) -> Result<(), AllocError> {
     Ok(())
 }
 
+fn joined(left: Form, right: Form) -> Result<Form, AllocError> {
+    left.join(&right)
+}
+
 /// The join of so many names from this one on.
 fn some_of(alloc: Global, first: u64, count: u64) -> Result<Form, AllocError> {
     let mut form = Form::zero(alloc)?;
     for place in 0..count {
-        form = form.join(&Form::name(alloc, first.wrapping_add(place))?)?;
+        let name = Form::name(alloc, first.wrapping_add(place))?;
+        form = joined(form, name)?;
     }
     Ok(form)
 }
