@@ -1,6 +1,6 @@
 //! The worked rows, lines that spell no row, and what is written.
 
-use deriv_file::{Next, RowReader, write_row};
+use deriv_file::{Next, Row, RowReader, write_row};
 use std::alloc::{AllocError, Global};
 use std::process::Abort;
 use std::test::Fail;
@@ -35,33 +35,86 @@ const FILE: [(&str, &str); 26] = [
     ("c face 24 4", "CtxFace(24, 4)"),
 ];
 
-#[test]
-fn reads_and_writes_rows(rt: HostRuntime) -> Result<(), Fail> {
-    let alloc = rt.alloc();
+fn push_line(bytes: &mut Vec<u8>, line: &str) -> Result<(), AllocError> {
+    bytes.extend_from_slice(line.as_bytes())?;
+    bytes.push(b'\n')?;
+    Ok(())
+}
+
+/// The lines of the file.
+fn file(alloc: Global) -> Result<Vec<u8>, AllocError> {
     let mut bytes: Vec<u8> = Vec::new(alloc);
     for (line, _) in FILE {
-        bytes.extend_from_slice(line.as_bytes())?;
-        bytes.push(b'\n')?;
+        push_line(&mut bytes, line)?;
     }
+    Ok(bytes)
+}
+
+fn next_row(alloc: Global, reader: &mut RowReader<'_>) -> Result<Row, Fail> {
+    match reader.next(alloc)? {
+        Next::Row(row) => Ok(row),
+        _ => Err(Fail::from("no row")),
+    }
+}
+
+fn assert_shown(
+    rt: &impl Abort,
+    alloc: Global,
+    row: &Row,
+    (line, want): (&str, &str),
+) -> Result<(), Fail> {
+    let shown = format!(in alloc; "{row:?}")?;
+    assert_eq!(rt; shown.as_str(), want, "at {line}");
+    Ok(())
+}
+
+/// Asserts what a row is, and writes it again.
+fn rewrite_row(
+    rt: &impl Abort,
+    alloc: Global,
+    row: &Row,
+    case: (&str, &str),
+    written: &mut Vec<u8>,
+) -> Result<(), Fail> {
+    assert_shown(rt, alloc, row, case)?;
+    Ok(write_row(row, written)?)
+}
+
+/// Does so with the next row.
+fn rewrite_next(
+    rt: &impl Abort,
+    alloc: Global,
+    reader: &mut RowReader<'_>,
+    case: (&str, &str),
+    written: &mut Vec<u8>,
+) -> Result<(), Fail> {
+    let row = next_row(alloc, reader)?;
+    let done = rewrite_row(rt, alloc, &row, case, written);
+    drop(row);
+    done
+}
+
+fn is_at_end(alloc: Global, reader: &mut RowReader<'_>) -> Result<bool, AllocError> {
+    Ok(matches!(&reader.next(alloc)?, Next::End))
+}
+
+/// The rows of the file, read to its end and written again.
+fn rewritten(rt: &impl Abort, alloc: Global, bytes: &[u8]) -> Result<Vec<u8>, Fail> {
     let mut written: Vec<u8> = Vec::new(alloc);
-    let mut reader = RowReader::new(&bytes);
-    for (line, want) in FILE {
-        match reader.next(alloc)? {
-            Next::Row(row) => {
-                assert_eq!(rt; format!(in alloc; "{row:?}")?.as_str(), want, "at {line}");
-                write_row(&row, &mut written)?;
-            }
-            answer => assert_eq!(rt;
-                format!(in alloc; "{answer:?}")?.as_str(),
-                want,
-                "at {line}"
-            ),
-        }
+    let mut reader = RowReader::new(bytes);
+    for case in FILE {
+        rewrite_next(rt, alloc, &mut reader, case, &mut written)?;
     }
     for _ in 0..2 {
-        let end = reader.next(alloc)?;
-        assert_eq!(rt; format!(in alloc; "{end:?}")?.as_str(), "End");
+        assert!(rt; is_at_end(alloc, &mut reader)?);
     }
+    Ok(written)
+}
+
+#[test]
+fn reads_and_writes_rows(rt: HostRuntime) -> Result<(), Fail> {
+    let bytes = file(rt.alloc())?;
+    let written = rewritten(&rt, rt.alloc(), &bytes)?;
     assert_eq!(rt; written.as_slice(), bytes.as_slice());
     Ok(())
 }
@@ -152,6 +205,23 @@ fn is_bad(answer: &Next, row: u64) -> bool {
     matches!(answer, Next::BadSpelling(bad) if *bad == row)
 }
 
+/// Asserts that a file is read up to a row that is spelled badly, and no further.
+fn assert_ends_badly(
+    rt: &impl Abort,
+    alloc: Global,
+    bytes: &[u8],
+    row: u64,
+) -> Result<(), AllocError> {
+    let mut reader = RowReader::new(bytes);
+    for _ in 0..row {
+        assert!(rt; matches!(&reader.next(alloc)?, Next::Row(_)));
+    }
+    for _ in 0..2 {
+        assert!(rt; is_bad(&reader.next(alloc)?, row), "at {bytes:?}");
+    }
+    Ok(())
+}
+
 fn refuses(
     rt: &impl Abort,
     alloc: Global,
@@ -161,24 +231,25 @@ fn refuses(
 ) -> Result<(), AllocError> {
     let mut bytes = Vec::from_slice(alloc, before)?;
     bytes.extend_from_slice(line)?;
-    let mut reader = RowReader::new(&bytes);
-    for _ in 0..row {
-        assert!(rt; matches!(&reader.next(alloc)?, Next::Row(_)));
-    }
-    for _ in 0..2 {
-        assert!(rt; is_bad(&reader.next(alloc)?, row), "at {line:?}");
+    assert_ends_badly(rt, alloc, &bytes, row)
+}
+
+fn refuses_all(
+    rt: &impl Abort,
+    alloc: Global,
+    before: &[u8],
+    row: u64,
+    lines: &[&[u8]],
+) -> Result<(), AllocError> {
+    for line in lines {
+        refuses(rt, alloc, before, row, *line)?;
     }
     Ok(())
 }
 
 #[test]
 fn refuses_other_lines(rt: HostRuntime) -> Result<(), Fail> {
-    let alloc = rt.alloc();
-    for line in BAD {
-        refuses(&rt, alloc, b"rules 1\nc nil\nc nil\n", 3, line)?;
-    }
-    for line in BAD_HEADERS {
-        refuses(&rt, alloc, b"", 0, line)?;
-    }
+    refuses_all(&rt, rt.alloc(), b"rules 1\nc nil\nc nil\n", 3, &BAD)?;
+    refuses_all(&rt, rt.alloc(), b"", 0, &BAD_HEADERS)?;
     Ok(())
 }
