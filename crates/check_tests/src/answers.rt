@@ -1,7 +1,8 @@
 //! What is printed, with which status, over objects in memory.
 
-use edge::{MemFiles, MemSink, MemSource};
-use session::{Status, answers_exclude_each_other, run};
+use crate::running::{run_over, words_of};
+use edge::{MemFiles, MemSink};
+use session::{Status, answers_exclude_each_other};
 use std::alloc::{AllocError, Global};
 use std::process::Abort;
 
@@ -35,15 +36,6 @@ fn lines(alloc: Global, rows: &[&str]) -> Result<String, AllocError> {
     Ok(text)
 }
 
-/// The words of a text, in which spaces part them.
-fn words_of(alloc: Global, text: &str) -> Result<Vec<String>, AllocError> {
-    let mut words = Vec::new(alloc);
-    for word in text.split(' ') {
-        words.push(String::from_str(alloc, word)?)?;
-    }
-    Ok(words)
-}
-
 /// Where the words are run: `two.drv` and `M.ctt` have texts, and some fetches and writes fail.
 #[derive(Clone, Copy)]
 struct Place<'a> {
@@ -65,23 +57,57 @@ fn sound(text: &str) -> Place<'_> {
     }
 }
 
+/// The files of the place.
+fn files_at(alloc: Global, place: &Place<'_>) -> Result<MemFiles, AllocError> {
+    let mut files = MemFiles::new(alloc, place.fetches)?;
+    files.put("two.drv", place.text.as_bytes())?;
+    files.put("M.ctt", place.module.as_bytes())?;
+    Ok(files)
+}
+
+/// Asserts what was printed, and how that ended.
+fn assert_ended(rt: &impl Abort, out: &MemSink, ends: Status, (printed, status): (&str, Status)) {
+    assert_eq!(rt; out.as_slice(), printed.as_bytes(), "wanted {printed}");
+    assert_eq!(rt; ends, status, "after {printed}");
+}
+
+/// Runs the words over these files, and asserts what they print to the sink and how they end.
+fn assert_prints_over(
+    rt: &impl Abort,
+    alloc: Global,
+    words: &[String],
+    files: &mut MemFiles,
+    out: &mut MemSink,
+    prints: (&str, Status),
+) -> Result<(), AllocError> {
+    let ends = run_over(alloc, words, files, out)?;
+    assert_ended(rt, out, ends, prints);
+    Ok(())
+}
+
 /// Runs the words there, and asserts what they print and how they end.
 fn assert_prints(
     rt: &impl Abort,
     alloc: Global,
     words: &[String],
     place: &Place<'_>,
-    (printed, status): (&str, Status),
+    prints: (&str, Status),
 ) -> Result<(), AllocError> {
-    let mut files = MemFiles::new(alloc, place.fetches)?;
-    files.put("two.drv", place.text.as_bytes())?;
-    files.put("M.ctt", place.module.as_bytes())?;
-    let mut input = MemSource::new(alloc, &[], &[])?;
+    let mut files = files_at(alloc, place)?;
     let mut out = MemSink::new(alloc, place.room, place.writes)?;
-    let ends = run(alloc, words, &mut files, &mut input, &mut out);
-    assert_eq!(rt; out.as_slice(), printed.as_bytes(), "wanted {printed}");
-    assert_eq!(rt; ends, status, "after {printed}");
-    Ok(())
+    assert_prints_over(rt, alloc, words, &mut files, &mut out, prints)
+}
+
+/// Asserts what the words of a text print there.
+fn assert_text_prints(
+    rt: &impl Abort,
+    alloc: Global,
+    text: &str,
+    place: &Place<'_>,
+    prints: (&str, Status),
+) -> Result<(), AllocError> {
+    let words = words_of(alloc, text)?;
+    assert_prints(rt, alloc, &words, place, prints)
 }
 
 /// Asserts what `replay two.drv` prints where the file has these rows.
@@ -92,27 +118,40 @@ fn assert_replays(
     prints: (&str, Status),
 ) -> Result<(), AllocError> {
     let text = lines(alloc, rows)?;
-    let words = words_of(alloc, "replay two.drv")?;
-    assert_prints(rt, alloc, &words, &sound(text.as_str()), prints)
+    assert_text_prints(rt, alloc, "replay two.drv", &sound(text.as_str()), prints)
 }
 
 #[test]
 fn rows_are_judged(rt: HostRuntime) -> Result<(), AllocError> {
-    let mut swapped = TWO;
-    swapped.swap(3, 4);
-    let mut before_its_premise = TWO;
-    before_its_premise.swap(8, 9);
-    let rows: [(&[&str], (&str, Status)); 6] = [
+    let rows: [(&[&str], (&str, Status)); 4] = [
         (&["rules 1"], ("yes: 1 rows, 0 roots\n", Status::Yes)),
         (&TWO, ("yes: 13 rows, 2 roots\n", Status::Yes)),
         (&[], ("no: row 0\n", Status::No)),
         (&["rules 9"], ("no: row 0\n", Status::No)),
-        (&swapped, ("no: row 5\n", Status::No)),
-        (&before_its_premise, ("no: row 8\n", Status::No)),
     ];
     for (rows, prints) in rows {
         assert_replays(&rt, rt.alloc(), rows, prints)?;
     }
+    Ok(())
+}
+
+#[test]
+fn rows_in_another_order_are_refused(rt: HostRuntime) -> Result<(), AllocError> {
+    let mut swapped = TWO;
+    swapped.swap(3, 4);
+    assert_replays(&rt, rt.alloc(), &swapped, ("no: row 5\n", Status::No))?;
+    let mut before_its_premise = TWO;
+    before_its_premise.swap(8, 9);
+    assert_replays(
+        &rt,
+        rt.alloc(),
+        &before_its_premise,
+        ("no: row 8\n", Status::No),
+    )
+}
+
+#[test]
+fn a_row_with_other_words_is_refused(rt: HostRuntime) -> Result<(), AllocError> {
     for row in ["n suc 1 7 11", "n suc 1 07 8", "n suc 1 4 8"] {
         let mut rows = TWO;
         rows[9] = row;
@@ -125,9 +164,9 @@ fn rows_are_judged(rt: HostRuntime) -> Result<(), AllocError> {
 fn replay_wants_the_last_newline(rt: HostRuntime) -> Result<(), AllocError> {
     let mut text = lines(rt.alloc(), &TWO)?;
     let _newline = text.pop();
-    let words = words_of(rt.alloc(), "replay two.drv")?;
     let prints = ("no: row 12\n", Status::No);
-    assert_prints(&rt, rt.alloc(), &words, &sound(text.as_str()), prints)
+    let place = sound(text.as_str());
+    assert_text_prints(&rt, rt.alloc(), "replay two.drv", &place, prints)
 }
 
 // A write that fails is not tried again, even where there is room.
@@ -162,13 +201,7 @@ fn files_and_output_fail(rt: HostRuntime) -> Result<(), AllocError> {
             room,
             ..sound("")
         };
-        assert_prints(
-            &rt,
-            rt.alloc(),
-            &words_of(rt.alloc(), text)?,
-            &place,
-            prints,
-        )?;
+        assert_text_prints(&rt, rt.alloc(), text, &place, prints)?;
     }
     Ok(())
 }
@@ -205,8 +238,7 @@ fn other_words_are_no_command(rt: HostRuntime) -> Result<(), AllocError> {
         "check M --of N",
         "normal two one two three four five",
     ] {
-        let words = words_of(rt.alloc(), text)?;
-        assert_prints(&rt, rt.alloc(), &words, &place, (USAGE, Status::Usage))?;
+        assert_text_prints(&rt, rt.alloc(), text, &place, (USAGE, Status::Usage))?;
     }
     Ok(())
 }
@@ -225,8 +257,8 @@ fn files_and_modules_that_are_missing_are_named(rt: HostRuntime) -> Result<(), A
             "no: MissingFile in transparent_all.ctt\n",
         ),
     ] {
-        let words = words_of(rt.alloc(), text)?;
-        assert_prints(&rt, rt.alloc(), &words, &sound(""), (printed, Status::No))?;
+        let prints = (printed, Status::No);
+        assert_text_prints(&rt, rt.alloc(), text, &sound(""), prints)?;
     }
     Ok(())
 }
@@ -256,18 +288,28 @@ const ROOTS: [(&str, &str); 6] = [
     ("", "no: root 0\n"),
 ];
 
+/// Asserts what `replay two.drv --of M` prints where the file has these rows, and then these roots,
+/// and the module defines the number two.
+fn assert_roots(
+    rt: &impl Abort,
+    alloc: Global,
+    rows: &str,
+    (roots, printed): (&str, &str),
+) -> Result<(), AllocError> {
+    let text = format!(in alloc; "{rows}{roots}")?;
+    let place = Place {
+        module: "module M where\ntwo : nat = suc (suc zero)\n",
+        ..sound(text.as_str())
+    };
+    let prints = (printed, status_of(printed));
+    assert_text_prints(rt, alloc, "replay two.drv --of M", &place, prints)
+}
+
 #[test]
 fn roots_are_compared_in_order(rt: HostRuntime) -> Result<(), AllocError> {
     let rows = lines(rt.alloc(), &DERIVED)?;
-    let words = words_of(rt.alloc(), "replay two.drv --of M")?;
-    for (roots, printed) in ROOTS {
-        let text = format!(in rt.alloc(); "{rows}{roots}")?;
-        let place = Place {
-            module: "module M where\ntwo : nat = suc (suc zero)\n",
-            ..sound(text.as_str())
-        };
-        let prints = (printed, status_of(printed));
-        assert_prints(&rt, rt.alloc(), &words, &place, prints)?;
+    for roots in ROOTS {
+        assert_roots(&rt, rt.alloc(), rows.as_str(), roots)?;
     }
     Ok(())
 }
@@ -332,31 +374,59 @@ fn status_of(printed: &str) -> Status {
     }
 }
 
+/// Asserts what a replay of this text for the module with these definitions prints, and what a
+/// check of the module.
+fn assert_module(
+    rt: &impl Abort,
+    alloc: Global,
+    text: &str,
+    (defs, replayed, checked): (&str, &str, &str),
+) -> Result<(), AllocError> {
+    let module = format!(in alloc; "module M where\n{defs}\n")?;
+    let place = Place {
+        module: module.as_str(),
+        ..sound(text)
+    };
+    for (words, printed) in [("replay two.drv --of M", replayed), ("check M", checked)] {
+        let prints = (printed, status_of(printed));
+        assert_text_prints(rt, alloc, words, &place, prints)?;
+    }
+    Ok(())
+}
+
 #[test]
 fn roots_are_those_of_the_module(rt: HostRuntime) -> Result<(), AllocError> {
     let text = lines(rt.alloc(), &TWO)?;
-    let replay = words_of(rt.alloc(), "replay two.drv --of M")?;
-    let check = words_of(rt.alloc(), "check M")?;
-    for (defs, replayed, checked) in MODULES {
-        let module = format!(in rt.alloc(); "module M where\n{defs}\n")?;
-        let place = Place {
-            module: module.as_str(),
-            ..sound(text.as_str())
-        };
-        for (words, printed) in [(&replay, replayed), (&check, checked)] {
-            let prints = (printed, status_of(printed));
-            assert_prints(&rt, rt.alloc(), words, &place, prints)?;
-        }
+    for module in MODULES {
+        assert_module(&rt, rt.alloc(), text.as_str(), module)?;
     }
     Ok(())
+}
+
+/// Asserts what the command prints over these files.
+fn assert_command(
+    rt: &impl Abort,
+    alloc: Global,
+    files: &mut MemFiles,
+    (text, printed): (&str, &str),
+) -> Result<(), AllocError> {
+    let words = words_of(alloc, text)?;
+    let mut out = MemSink::new(alloc, 1000, &[])?;
+    let prints = (printed, status_of(printed));
+    assert_prints_over(rt, alloc, &words, files, &mut out, prints)
+}
+
+/// Files with a module `M`, which imports `N`.
+fn importing_files(alloc: Global) -> Result<MemFiles, AllocError> {
+    let mut files = MemFiles::new(alloc, &[])?;
+    files.put("M.ctt", b"module M where\nimport N\ntwo : nat = suc one")?;
+    Ok(files)
 }
 
 // What `check` stores is what `replay` finds right; an import's refusal is told at its own place.
 #[test]
 fn a_derivation_is_replayed(rt: HostRuntime) -> Result<(), AllocError> {
-    let mut files = MemFiles::new(rt.alloc(), &[])?;
-    files.put("M.ctt", b"module M where\nimport N\ntwo : nat = suc one")?;
-    let mut input = MemSource::new(rt.alloc(), &[], &[])?;
+    let mut files = importing_files(rt.alloc())?;
     for (module, commands) in [
         (
             "module N where\none : nat = suc zero",
@@ -374,12 +444,8 @@ fn a_derivation_is_replayed(rt: HostRuntime) -> Result<(), AllocError> {
         ),
     ] {
         files.put("N.ctt", module.as_bytes())?;
-        for (text, printed) in commands {
-            let words = words_of(rt.alloc(), text)?;
-            let mut out = MemSink::new(rt.alloc(), 1000, &[])?;
-            let ends = run(rt.alloc(), &words, &mut files, &mut input, &mut out);
-            assert_eq!(rt; out.as_slice(), printed.as_bytes(), "wanted {printed}");
-            assert_eq!(rt; ends, status_of(printed), "after {printed}");
+        for command in commands {
+            assert_command(&rt, rt.alloc(), &mut files, command)?;
         }
     }
     Ok(())
@@ -393,9 +459,8 @@ fn an_option_stands_anywhere(rt: HostRuntime) -> Result<(), AllocError> {
         "replay a.drv --of=M",
         "replay --of M -- a.drv",
     ] {
-        let words = words_of(rt.alloc(), text)?;
         let prints = ("no: MissingFile in a.drv\n", Status::No);
-        assert_prints(&rt, rt.alloc(), &words, &sound(""), prints)?;
+        assert_text_prints(&rt, rt.alloc(), text, &sound(""), prints)?;
     }
     Ok(())
 }

@@ -10,3 +10,5 @@ mod answers;
 mod checked;
 #[cfg(test)]
 mod modules;
+#[cfg(test)]
+mod running;
