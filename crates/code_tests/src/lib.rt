@@ -7,3 +7,5 @@
 mod forms;
 #[cfg(test)]
 mod names;
+#[cfg(test)]
+mod words;

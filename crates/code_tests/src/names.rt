@@ -1,11 +1,14 @@
 //! Names and formulas of a text.
 
-use codes::{Code, Formula};
+use crate::words::{code_is, formula_is};
+use codes::Code;
 use layout_lexer::Span;
 use references::References;
 use scopes::{Binding, Place, Scope, ScopeNames};
+use std::alloc::AllocError;
+use std::process::Abort;
 use std::test::Fail;
-use syntax::{End, Equation};
+use syntax::{End, Equation, Formula};
 use translation::{Cause, Refusal};
 
 /// `x i suc natrec`, each name by its place.
@@ -19,6 +22,61 @@ const SUC: Span = Span { start: 4, end: 7 };
 
 const NATREC: Span = Span { start: 8, end: 14 };
 
+/// Binds the first name as a variable, and the second as a name of the interval.
+fn bind<'a>(text: References<'a>, place: &mut Place<'a>) -> Result<(), AllocError> {
+    text.bind_all(place, &[X], Binding::Variable)?;
+    text.bind_all(place, &[I], Binding::Interval)
+}
+
+/// A name where a term is wanted.
+fn term<'a>(text: References<'a>, place: &mut Place<'a>, name: Span) -> Result<Code, AllocError> {
+    text.name(place, name)
+}
+
+/// The negation of a name of the interval.
+fn negation<'a>(
+    text: References<'a>,
+    place: &mut Place<'a>,
+    name: Span,
+) -> Result<codes::Formula, AllocError> {
+    let negated = Formula::negate(text.alloc, name, Formula::Name(name))?;
+    text.formula(place, &negated)
+}
+
+/// How many equations are read of one, of a name of the interval.
+fn equations<'a>(
+    text: References<'a>,
+    place: &mut Place<'a>,
+    name: Span,
+) -> Result<usize, AllocError> {
+    let end = End::One;
+    let equations = text.equations(place, &[Equation { name, end }])?;
+    Ok(equations.len())
+}
+
+/// What the names are at a place where none is bound yet.
+///
+/// The place is lent: whoever owns it drops it wherever a step may fail, and each of these ways out
+/// is proved.
+fn names_are_read<'a>(
+    rt: &impl Abort,
+    text: References<'a>,
+    place: &mut Place<'a>,
+) -> Result<(), Fail> {
+    bind(text, place)?;
+    code_is(rt, term(text, place, X), "#1")?;
+    code_is(rt, term(text, place, SUC), "lambda")?;
+    formula_is(rt, negation(text, place, I), "-")?;
+    assert_eq!(rt; equations(text, place, I)?, 1);
+    assert_eq!(rt; place.refusal(), None);
+    text.define(place, 0, X, 4)?;
+    code_is(rt, term(text, place, X), "@4")?;
+    code_is(rt, term(text, place, NATREC), "U")?;
+    let cause = Cause::NameKind;
+    assert_eq!(rt; place.refusal(), Some(Refusal { at: 8, cause }));
+    Ok(())
+}
+
 #[test]
 fn names_are_read_by_what_they_are(rt: HostRuntime) -> Result<(), Fail> {
     let alloc = rt.alloc();
@@ -28,22 +86,5 @@ fn names_are_read_by_what_they_are(rt: HostRuntime) -> Result<(), Fail> {
     };
     let text = References { alloc, bytes: TEXT };
     let mut place = Place::new(alloc, &scope)?;
-    text.bind_all(&mut place, &[X], Binding::Variable)?;
-    text.bind_all(&mut place, &[I], Binding::Interval)?;
-    assert!(rt; matches!(text.name(&mut place, X)?, Code::Bound { index: 1, .. }));
-    assert!(rt; matches!(text.name(&mut place, SUC)?, Code::Lambda { .. }));
-    let negated = syntax::Formula::negate(alloc, I, syntax::Formula::Name(I))?;
-    assert!(rt; matches!(text.formula(&mut place, &negated)?, Formula::Negate(..)));
-    let equation = Equation {
-        name: I,
-        end: End::One,
-    };
-    assert_eq!(rt; text.equations(&mut place, &[equation])?.len(), 1);
-    assert_eq!(rt; place.refusal(), None);
-    text.define(&mut place, 0, X, 4)?;
-    assert!(rt; matches!(text.name(&mut place, X)?, Code::Defined { number: 4, .. }));
-    assert!(rt; matches!(text.name(&mut place, NATREC)?, Code::Universe { .. }));
-    let cause = Cause::NameKind;
-    assert_eq!(rt; place.refusal(), Some(Refusal { at: 8, cause }));
-    Ok(())
+    names_are_read(&rt, text, &mut place)
 }
