@@ -35,6 +35,16 @@ struct Shown<'a> {
 }
 
 impl<'a> Shown<'a> {
+    /// Of a text, nothing yet.
+    fn new(alloc: Global, text: &'a str, spans: bool) -> Shown<'a> {
+        Shown {
+            text,
+            into: String::new(alloc),
+            parts: Vec::new(alloc),
+            spans,
+        }
+    }
+
     fn then(&mut self, parts: &[Part<'a>]) -> Result<(), AllocError> {
         for part in parts.iter().rev() {
             self.parts.push(*part)?;
@@ -331,6 +341,30 @@ impl<'a> Shown<'a> {
         }
         Ok(())
     }
+
+    /// Writes an expression with all that it has.
+    fn whole_exp(&mut self, exp: &'a Exp) -> Result<(), AllocError> {
+        self.parts.push(Part::Exp(exp))?;
+        self.all()
+    }
+
+    /// Writes a module with all that it has.
+    fn whole_module(&mut self, module: &'a Module) -> Result<(), AllocError> {
+        self.piece(module.name)?;
+        if !module.imports.as_slice().is_empty() {
+            self.into.push_str(" import")?;
+        }
+        self.parts.push(Part::Defs(module.defs.as_slice()))?;
+        self.parts.push(Part::Names(module.imports.as_slice()))?;
+        self.all()
+    }
+
+    /// What was written.
+    fn written(self) -> String {
+        let Shown { into, parts, .. } = self;
+        drop(parts);
+        into
+    }
 }
 
 /// An expression of a text; with spans, the span of each form.
@@ -340,15 +374,9 @@ pub fn exp_shown<'a>(
     exp: &'a Exp,
     spans: bool,
 ) -> Result<String, AllocError> {
-    let mut shown = Shown {
-        text,
-        into: String::new(alloc),
-        parts: Vec::new(alloc),
-        spans,
-    };
-    shown.parts.push(Part::Exp(exp))?;
-    shown.all()?;
-    Ok(shown.into)
+    let mut shown = Shown::new(alloc, text, spans);
+    shown.whole_exp(exp)?;
+    Ok(shown.written())
 }
 
 /// A module of a text.
@@ -357,18 +385,7 @@ pub fn module_shown<'a>(
     text: &'a str,
     module: &'a Module,
 ) -> Result<String, AllocError> {
-    let mut shown = Shown {
-        text,
-        into: String::new(alloc),
-        parts: Vec::new(alloc),
-        spans: false,
-    };
-    shown.piece(module.name)?;
-    if !module.imports.as_slice().is_empty() {
-        shown.into.push_str(" import")?;
-    }
-    shown.parts.push(Part::Defs(module.defs.as_slice()))?;
-    shown.parts.push(Part::Names(module.imports.as_slice()))?;
-    shown.all()?;
-    Ok(shown.into)
+    let mut shown = Shown::new(alloc, text, false);
+    shown.whole_module(module)?;
+    Ok(shown.written())
 }
