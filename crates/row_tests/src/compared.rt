@@ -48,6 +48,9 @@ const fn with_face(ctx: u64, face: u64) -> Row<'static> {
     Row::Context(CtxRow::Face(CtxId(ctx), TermId(face)))
 }
 
+/// A kind, two rows of it, and whether they mean the same.
+type SameCase = (PartKind, (u64, u64), bool);
+
 /// Adds a row that fits.
 fn add(rt: &impl Abort, rows: &mut RowStore, row: Row<'_>) -> Result<u64, Fail> {
     assert!(rt; rows.fits(&row));
@@ -67,22 +70,26 @@ fn assert_same(
     rt: &impl Abort,
     comparison: &mut Comparison,
     rows: &RowStore,
-    kind: PartKind,
-    pair: (u64, u64),
-    same: bool,
+    (kind, (left, right), same): SameCase,
 ) -> Result<(), Fail> {
-    let (left, right) = pair;
     assert!(rt; rows.is_of_kind(left, kind) && rows.is_of_kind(right, kind));
-    assert_eq!(rt;
-        comparison.same(rows, kind, left, right)?,
-        same,
-        "at {pair:?}"
-    );
-    assert_eq!(rt;
-        comparison.same(rows, kind, right, left)?,
-        same,
-        "at {pair:?}, exchanged"
-    );
+    let there = comparison.same(rows, kind, left, right)?;
+    assert_eq!(rt; there, same, "at {left}, {right}");
+    let exchanged = comparison.same(rows, kind, right, left)?;
+    assert_eq!(rt; exchanged, same, "at {right}, {left}");
+    Ok(())
+}
+
+fn assert_all_same(
+    rt: &impl Abort,
+    alloc: Global,
+    rows: &RowStore,
+    cases: &[SameCase],
+) -> Result<(), Fail> {
+    let mut comparison = Comparison::new(alloc);
+    for case in cases {
+        assert_same(rt, &mut comparison, rows, *case)?;
+    }
     Ok(())
 }
 
@@ -137,7 +144,7 @@ fn rows_are_compared_by_what_they_mean(rt: HostRuntime) -> Result<(), Fail> {
         with_face(34, 12),
         with_face(34, 1),
     ];
-    let cases: [(PartKind, (u64, u64), bool); 26] = [
+    let cases: [SameCase; 26] = [
         (PartKind::Term, (0, 0), true),
         (PartKind::Term, (0, 1), false),
         (PartKind::Term, (0, 3), false),
@@ -166,35 +173,31 @@ fn rows_are_compared_by_what_they_mean(rt: HostRuntime) -> Result<(), Fail> {
         (PartKind::Context, (35, 37), false),
     ];
     let rows = filled(&rt, rt.alloc(), &table)?;
-    let mut comparison = Comparison::new(rt.alloc());
-    for (kind, pair, same) in cases {
-        assert_same(&rt, &mut comparison, &rows, kind, pair, same)?;
+    assert_all_same(&rt, rt.alloc(), &rows, &cases)
+}
+
+/// Adds a tree with a row as both kids, one with that as both kids, and so on, 40 times.
+fn add_doublings(rt: &impl Abort, rows: &mut RowStore, row: u64) -> Result<u64, Fail> {
+    let mut last = row;
+    for _ in 0..40 {
+        last = add(rt, rows, make(Op::App, &[last, last]))?;
     }
-    Ok(())
+    Ok(last)
 }
 
 #[test]
 fn shared_trees_are_compared_in_the_time_of_what_is_shared(rt: HostRuntime) -> Result<(), Fail> {
-    let mut rows = filled(
-        &rt,
-        rt.alloc(),
-        &[make(Op::Zero, &[]), make(Op::Zero, &[]), shift(1)],
-    )?;
-    let (mut left, mut right) = (0, 1);
-    for _ in 0..40 {
-        left = add(&rt, &mut rows, make(Op::App, &[left, left]))?;
-        right = add(&rt, &mut rows, make(Op::App, &[right, right]))?;
-    }
+    let table = [make(Op::Zero, &[]), make(Op::Zero, &[]), shift(1)];
+    let mut rows = filled(&rt, rt.alloc(), &table)?;
+    let left = add_doublings(&rt, &mut rows, 0)?;
+    let right = add_doublings(&rt, &mut rows, 1)?;
     let raised = add(&rt, &mut rows, instance(right, 2))?;
-    let mut comparison = Comparison::new(rt.alloc());
-    for (pair, same) in [
-        ((left, right), true),
-        ((left, raised), true),
-        ((left, 0), false),
-    ] {
-        assert_same(&rt, &mut comparison, &rows, PartKind::Term, pair, same)?;
-    }
-    Ok(())
+    let cases: [SameCase; 3] = [
+        (PartKind::Term, (left, right), true),
+        (PartKind::Term, (left, raised), true),
+        (PartKind::Term, (left, 0), false),
+    ];
+    assert_all_same(&rt, rt.alloc(), &rows, &cases)
 }
 
 /// Whether the rows of a claim are of the kinds that its form names.
@@ -211,6 +214,22 @@ fn is_judgement(rows: &RowStore, claim: Claim) -> bool
         Claim::TmEq(g, t, s, a) => is_context(g) && is_tree(t) && is_tree(s) && is_tree(a),
         Claim::Sb(h, d, g) => is_context(h) && rows.is_of_kind(d, PartKind::Subst) && is_context(g),
     }
+}
+
+/// Asserts whether pairs of claims are the same judgement.
+fn assert_all_same_claims(
+    rt: &impl Abort,
+    alloc: Global,
+    rows: &RowStore,
+    cases: &[(Claim, Claim, bool)],
+) -> Result<(), Fail> {
+    let mut comparison = Comparison::new(alloc);
+    for (left, right, same) in cases {
+        assert!(rt; is_judgement(rows, *left) && is_judgement(rows, *right));
+        let there = comparison.same_claim(rows, *left, *right)?;
+        assert_eq!(rt; there, *same, "{left:?}, {right:?}");
+    }
+    Ok(())
 }
 
 #[test]
@@ -255,14 +274,5 @@ fn claims_are_compared_place_by_place(rt: HostRuntime) -> Result<(), Fail> {
         (Claim::Sb(1, 5, 0), Claim::Sb(2, 5, 1), false),
     ];
     let rows = filled(&rt, rt.alloc(), &table)?;
-    let mut comparison = Comparison::new(rt.alloc());
-    for (left, right, same) in cases {
-        assert!(rt; is_judgement(&rows, left) && is_judgement(&rows, right));
-        assert_eq!(rt;
-            comparison.same_claim(&rows, left, right)?,
-            same,
-            "{left:?}, {right:?}"
-        );
-    }
-    Ok(())
+    assert_all_same_claims(&rt, rt.alloc(), &rows, &cases)
 }

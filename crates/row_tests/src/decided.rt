@@ -146,6 +146,19 @@ fn sub(rt: &impl Abort, written: &mut Written, from: (u64, &str)) -> Result<SubI
     Ok(SubId(subst(rt, written, shift)?))
 }
 
+/// Whether a tree holds in the context, and whether it follows there.
+fn holds_and_follows(
+    rt: &impl Abort,
+    alloc: Global,
+    written: &Written,
+    face: TermId,
+) -> Result<(bool, bool), Fail> {
+    let (rows, ctx) = (&written.rows, CtxId(written.ctx));
+    assert!(rt; rows.is_context(ctx) && rows.is_term(face));
+    let faces = ContextFaces::read(alloc, rows, ctx)?;
+    Ok((faces.holds(rows, face)?, faces.follows(rows, face)?))
+}
+
 /// Asserts whether the tree of a text holds in the context of another, and whether it follows
 /// there.
 fn assert_holds(
@@ -156,10 +169,7 @@ fn assert_holds(
 ) -> Result<(), Fail> {
     let mut written = in_context(rt, alloc, texts.0)?;
     let face = tree(rt, &mut written, texts.1)?;
-    let (rows, ctx) = (&written.rows, CtxId(written.ctx));
-    assert!(rt; rows.is_context(ctx) && rows.is_term(face));
-    let faces = ContextFaces::read(alloc, rows, ctx)?;
-    let got = (faces.holds(rows, face)?, faces.follows(rows, face)?);
+    let got = holds_and_follows(rt, alloc, &written, face)?;
     assert!(rt; got == wanted, "at {texts:?}");
     Ok(())
 }
@@ -234,6 +244,19 @@ fn what_is_no_face_follows_from_nothing_alone(rt: HostRuntime) -> Result<(), Fai
     Ok(())
 }
 
+/// Whether two trees are formulas of one value in the context.
+fn are_of_one_value(
+    rt: &impl Abort,
+    alloc: Global,
+    written: &Written,
+    (left, right): (TermId, TermId),
+) -> Result<bool, Fail> {
+    let (rows, ctx) = (&written.rows, CtxId(written.ctx));
+    assert!(rt; rows.is_context(ctx) && rows.is_term(left) && rows.is_term(right));
+    let mut faces = ContextFaces::read(alloc, rows, ctx)?;
+    Ok(faces.same_form(rows, left, right)?)
+}
+
 /// Asserts whether the trees of two texts are formulas of one value in the context of a third.
 fn assert_same(
     rt: &impl Abort,
@@ -244,10 +267,8 @@ fn assert_same(
     let mut written = in_context(rt, alloc, texts.0)?;
     let left = tree(rt, &mut written, texts.1)?;
     let right = tree(rt, &mut written, texts.2)?;
-    let (rows, ctx) = (&written.rows, CtxId(written.ctx));
-    assert!(rt; rows.is_context(ctx) && rows.is_term(left) && rows.is_term(right));
-    let mut faces = ContextFaces::read(alloc, rows, ctx)?;
-    assert!(rt; faces.same_form(rows, left, right)? == same, "at {texts:?}");
+    let got = are_of_one_value(rt, alloc, &written, (left, right))?;
+    assert!(rt; got == same, "at {texts:?}");
     Ok(())
 }
 
@@ -275,6 +296,21 @@ fn formulas_are_of_one_value_under_faces(rt: HostRuntime) -> Result<(), Fail> {
     Ok(())
 }
 
+/// Whether a tree is a formula, and whether it is a face, in the context.
+fn is_formula_or_face(
+    rt: &impl Abort,
+    alloc: Global,
+    written: &Written,
+    tree: TermId,
+) -> Result<(bool, bool), Fail> {
+    let (rows, ctx) = (&written.rows, CtxId(written.ctx));
+    assert!(rt; rows.is_context(ctx) && rows.is_term(tree));
+    let faces = ContextFaces::read(alloc, rows, ctx)?;
+    let is_formula = faces.form_of(rows, tree)?.is_some();
+    let is_face = faces.face_of(rows, tree)?.is_some();
+    Ok((is_formula, is_face))
+}
+
 /// Asserts whether the tree of a text is a formula, or a face, in the context of another.
 fn assert_is(
     rt: &impl Abort,
@@ -284,12 +320,8 @@ fn assert_is(
 ) -> Result<(), Fail> {
     let mut written = in_context(rt, alloc, texts.0)?;
     let tree = tree(rt, &mut written, texts.1)?;
-    let (rows, ctx) = (&written.rows, CtxId(written.ctx));
-    assert!(rt; rows.is_context(ctx) && rows.is_term(tree));
-    let faces = ContextFaces::read(alloc, rows, ctx)?;
-    let form = faces.form_of(rows, tree)?;
-    let face = faces.face_of(rows, tree)?;
-    assert!(rt; (form.is_some(), face.is_some()) == wanted, "at {texts:?}");
+    let got = is_formula_or_face(rt, alloc, &written, tree)?;
+    assert!(rt; got == wanted, "at {texts:?}");
     Ok(())
 }
 
@@ -322,6 +354,19 @@ fn trees_are_formulas_or_faces_over_names(rt: HostRuntime) -> Result<(), Fail> {
     Ok(())
 }
 
+/// Whether two substitutions are alike in the context.
+fn are_alike(
+    rt: &impl Abort,
+    alloc: Global,
+    written: &Written,
+    (left, right): (SubId, SubId),
+) -> Result<bool, Fail> {
+    let (rows, ctx) = (&written.rows, written.ctx);
+    assert!(rt; rows.is_context(CtxId(ctx)) && rows.is_subst(left) && rows.is_subst(right));
+    let mut conditions = SideConditions::new();
+    Ok(conditions.decide(alloc, rows, SideTest::Alike(ctx, left.0, right.0), 0)?)
+}
+
 /// Asserts whether two substitutions are alike in the context of a text.
 fn assert_alike(
     rt: &impl Abort,
@@ -333,14 +378,8 @@ fn assert_alike(
     let mut written = in_context(rt, alloc, ctx)?;
     let left = sub(rt, &mut written, subs.0)?;
     let right = sub(rt, &mut written, subs.1)?;
-    let test = SideTest::Alike(written.ctx, left.0, right.0);
-    let rows = &written.rows;
-    assert!(rt; rows.is_context(CtxId(written.ctx)) && rows.is_subst(left) && rows.is_subst(right));
-    let mut conditions = SideConditions::new();
-    assert!(rt;
-        conditions.decide(alloc, rows, test, 0)? == alike,
-        "at {ctx}, {subs:?}"
-    );
+    let got = are_alike(rt, alloc, &written, (left, right))?;
+    assert!(rt; got == alike, "at {ctx}, {subs:?}");
     Ok(())
 }
 
@@ -364,14 +403,15 @@ fn substitutions_are_alike_place_by_place(rt: HostRuntime) -> Result<(), Fail> {
     Ok(())
 }
 
-#[test]
-fn tests_are_decided_one_after_another(rt: HostRuntime) -> Result<(), Fail> {
-    let mut written = in_context(&rt, rt.alloc(), "nnb0f")?;
-    let outer = written.ctx;
-    let form = tree(&rt, &mut written, "bb-&")?.0;
-    let face = tree(&rt, &mut written, "b1")?.0;
-    write(&rt, &mut written, "b1f")?;
-    let (rows, inner) = (&written.rows, written.ctx);
+/// Asserts how tests about a formula and a face are decided one after another, over two
+/// contexts of which the inner has the face.
+fn assert_decided(
+    rt: &impl Abort,
+    alloc: Global,
+    rows: &RowStore,
+    (outer, inner): (u64, u64),
+    (form, face): (u64, u64),
+) -> Result<(), Fail> {
     assert!(rt; rows.is_context(CtxId(outer)) && rows.is_context(CtxId(inner)));
     assert!(rt; rows.is_term(TermId(form)) && rows.is_term(TermId(face)));
     let mut conditions = SideConditions::new();
@@ -384,27 +424,38 @@ fn tests_are_decided_one_after_another(rt: HostRuntime) -> Result<(), Fail> {
         (SideTest::IsFace(outer, face), true),
         (SideTest::IsFace(outer, form), false),
     ] {
-        assert!(rt;
-            conditions.decide(rt.alloc(), rows, test, inner)? == wanted,
-            "at {test:?}"
-        );
+        let got = conditions.decide(alloc, rows, test, inner)?;
+        assert!(rt; got == wanted, "at {test:?}");
     }
     Ok(())
 }
 
 #[test]
+fn tests_are_decided_one_after_another(rt: HostRuntime) -> Result<(), Fail> {
+    let mut written = in_context(&rt, rt.alloc(), "nnb0f")?;
+    let outer = written.ctx;
+    let form = tree(&rt, &mut written, "bb-&")?.0;
+    let face = tree(&rt, &mut written, "b1")?.0;
+    write(&rt, &mut written, "b1f")?;
+    let contexts = (outer, written.ctx);
+    assert_decided(&rt, rt.alloc(), &written.rows, contexts, (form, face))
+}
+
+/// The tree that joins a tree with itself, that with itself, and so on, 40 times.
+fn doubled(rt: &impl Abort, rows: &mut RowStore, tree: TermId) -> Result<TermId, Fail> {
+    let mut last = tree.0;
+    for _ in 0..40 {
+        last = add(rt, rows, Row::Term(TermRow::Make(Op::Max, &[last, last])))?;
+    }
+    Ok(TermId(last))
+}
+
+#[test]
 fn a_shared_formula_is_read_once(rt: HostRuntime) -> Result<(), Fail> {
     let mut written = in_context(&rt, rt.alloc(), "nn")?;
-    let ctx = CtxId(written.ctx);
     let first = tree(&rt, &mut written, "b")?;
-    let mut last = first;
-    for _ in 0..40 {
-        let row = Row::Term(TermRow::Make(Op::Max, &[last.0, last.0]));
-        last = TermId(add(&rt, &mut written.rows, row)?);
-    }
-    let rows = &written.rows;
-    assert!(rt; rows.is_context(ctx) && rows.is_term(first) && rows.is_term(last));
-    let mut faces = ContextFaces::read(rt.alloc(), rows, ctx)?;
-    assert!(rt; faces.same_form(rows, last, first)?);
+    let last = doubled(&rt, &mut written.rows, first)?;
+    let same = are_of_one_value(&rt, rt.alloc(), &written, (last, first))?;
+    assert!(rt; same);
     Ok(())
 }

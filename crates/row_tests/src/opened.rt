@@ -49,6 +49,12 @@ fn filled(rt: &impl Abort, alloc: Global, table: &[Row<'_>]) -> Result<RowStore,
     Ok(rows)
 }
 
+/// Adds the variable of an index under a substitution.
+fn add_variable(rt: &impl Abort, rows: &mut RowStore, index: u32, sub: u64) -> Result<u64, Fail> {
+    let variable = add(rt, rows, &var(index))?;
+    add(rt, rows, &instance(variable, sub))
+}
+
 /// The index of the variable that a row opens to, and the number of nodes that it took.
 fn variable_at(
     rt: &impl Abort,
@@ -143,9 +149,7 @@ fn variables_open_to_variables(rt: HostRuntime) -> Result<(), Fail> {
     ];
     for (index, sub, want) in cases {
         let mut rows = filled(&rt, rt.alloc(), &few)?;
-        let variable = add(&rt, &mut rows, &var(index))?;
-        let whole = Row::Term(TermRow::Instance(TermId(variable), SubId(sub)));
-        let row = add(&rt, &mut rows, &whole)?;
+        let row = add_variable(&rt, &mut rows, index, sub)?;
         let (found, _) = variable_at(&rt, rt.alloc(), &rows, row)?;
         assert_eq!(rt; found, want, "at {index} under {sub}");
     }
@@ -242,33 +246,63 @@ fn operators_open_under_binders(rt: HostRuntime) -> Result<(), Fail> {
     Ok(())
 }
 
-#[test]
-fn long_chains_open_in_the_time_of_their_rows(rt: HostRuntime) -> Result<(), Fail> {
-    // instances of instances
-    let table = [shift(1), var(0), shift(0), make(Op::Zero, &[]), push(2, 3)];
-    let mut rows = filled(&rt, rt.alloc(), &table)?;
-    let mut last = 1;
+/// Adds an instance of a row by a substitution, an instance of that, and so on, 10 000 times.
+fn add_instances(rt: &impl Abort, rows: &mut RowStore, row: u64, sub: u64) -> Result<u64, Fail> {
+    let mut last = row;
     for _ in 0..10_000 {
-        let whole = Row::Term(TermRow::Instance(TermId(last), SubId(0)));
-        last = add(&rt, &mut rows, &whole)?;
+        last = add(rt, rows, &instance(last, sub))?;
     }
-    assert_eq!(rt;
-        variable_at(&rt, rt.alloc(), &rows, last)?,
-        (10_000, 10_000)
-    );
-    // each substitution twice the one before: past 2^20 trees and fewer, and among 2^21 and more,
-    // each of which is zero
-    let mut sub = 4;
+    Ok(last)
+}
+
+/// Asserts what the variable 2^20 becomes under a substitution that pushes zero, twice that, and so
+/// on: past 2^20 trees and fewer a variable, and among 2^21 and more zero.
+fn assert_doublings_open(
+    rt: &impl Abort,
+    alloc: Global,
+    rows: &mut RowStore,
+    push: u64,
+) -> Result<(), Fail> {
+    let mut sub = push;
     for doublings in 1..=40u32 {
-        let twice = Row::Subst(SubRow::Then(SubId(sub), SubId(sub)));
-        sub = add(&rt, &mut rows, &twice)?;
-        let variable = add(&rt, &mut rows, &var(1 << 20))?;
-        let whole = Row::Term(TermRow::Instance(TermId(variable), SubId(sub)));
-        let row = TermId(add(&rt, &mut rows, &whole)?);
+        sub = add(rt, rows, &then(sub, sub))?;
+        let row = TermId(add_variable(rt, rows, 1 << 20, sub)?);
         assert!(rt; rows.is_term(row));
-        let there = head_along(&rt, rt.alloc(), &rows, row, &[])?;
+        let there = head_along(rt, alloc, rows, row, &[])?;
         let want = (1u128 << 20).checked_sub(1 << doublings).ok_or(Op::Zero);
         assert_eq!(rt; there, want, "at {doublings}");
+    }
+    Ok(())
+}
+
+#[test]
+fn long_chains_open_in_the_time_of_their_rows(rt: HostRuntime) -> Result<(), Fail> {
+    let table = [shift(1), var(0), shift(0), make(Op::Zero, &[]), push(2, 3)];
+    let mut rows = filled(&rt, rt.alloc(), &table)?;
+    let last = add_instances(&rt, &mut rows, 1, 0)?;
+    let found = variable_at(&rt, rt.alloc(), &rows, last)?;
+    assert_eq!(rt; found, (10_000, 10_000));
+    assert_doublings_open(&rt, rt.alloc(), &mut rows, 4)
+}
+
+/// Asserts that the variable 0 opens to itself, under substitutions that each are the one before
+/// twice over, and under ones that each push the tree before, which is an instance by the one
+/// before it.
+fn assert_doubled_chains_open(
+    rt: &impl Abort,
+    alloc: Global,
+    rows: &mut RowStore,
+) -> Result<(), Fail> {
+    let (mut twice, mut within, mut tree) = (4, 5, 1);
+    for at in 0..64u8 {
+        twice = add(rt, rows, &then(twice, twice))?;
+        tree = add(rt, rows, &instance(tree, within))?;
+        within = add(rt, rows, &push(2, tree))?;
+        let whole = add(rt, rows, &instance(1, twice))?;
+        for row in [whole, tree] {
+            let (index, _) = variable_at(rt, alloc, rows, row)?;
+            assert_eq!(rt; index, 0, "at {at}");
+        }
     }
     Ok(())
 }
@@ -287,24 +321,7 @@ fn doubled_chains_over_variables_open_in_the_time_of_their_rows(
         push(2, 3),
     ];
     let mut rows = filled(&rt, rt.alloc(), &table)?;
-    // the variable 0, under substitutions that each are the one before twice over, and under ones
-    // that each push the tree before, which is an instance by the one before it
-    let (mut twice, mut within, mut tree) = (4, 5, 1);
-    for at in 0..64u8 {
-        let then = Row::Subst(SubRow::Then(SubId(twice), SubId(twice)));
-        twice = add(&rt, &mut rows, &then)?;
-        let instance = Row::Term(TermRow::Instance(TermId(tree), SubId(within)));
-        tree = add(&rt, &mut rows, &instance)?;
-        let push = Row::Subst(SubRow::Push(SubId(2), TermId(tree)));
-        within = add(&rt, &mut rows, &push)?;
-        let whole = Row::Term(TermRow::Instance(TermId(1), SubId(twice)));
-        let whole = add(&rt, &mut rows, &whole)?;
-        for row in [whole, tree] {
-            let (index, _) = variable_at(&rt, rt.alloc(), &rows, row)?;
-            assert_eq!(rt; index, 0, "at {at}");
-        }
-    }
-    Ok(())
+    assert_doubled_chains_open(&rt, rt.alloc(), &mut rows)
 }
 
 /// What stands outermost in a substitution: a shift, or a push of the variable of an index.
@@ -312,6 +329,25 @@ fn doubled_chains_over_variables_open_in_the_time_of_their_rows(
 enum Outermost {
     Shift(u128),
     Push(u128),
+}
+
+/// What stands outermost in the substitution of a row.
+fn outermost_of(
+    rt: &impl Abort,
+    alloc: Global,
+    rows: &RowStore,
+    row: SubId,
+) -> Result<Outermost, Fail> {
+    assert!(rt; rows.is_subst(row));
+    let mut environments = Environments::new(alloc);
+    let tree = match subst_head(rows, &mut environments, SubstClosure::of_row(row))? {
+        SubstHead::Shift(by) => return Ok(Outermost::Shift(by)),
+        SubstHead::Push(_, tree) => tree,
+    };
+    match head_of(rows, &mut environments, tree)? {
+        Head::Var(index) => Ok(Outermost::Push(index)),
+        Head::Make(_, _, _) => Err(Fail::from("an operator")),
+    }
 }
 
 #[test]
@@ -355,17 +391,8 @@ fn substitutions_open_to_shifts_or_pushes(rt: HostRuntime) -> Result<(), Fail> {
     ];
     let rows = filled(&rt, rt.alloc(), &table)?;
     for (row, want) in cases {
-        assert!(rt; rows.is_subst(SubId(row)));
-        let mut environments = Environments::new(rt.alloc());
-        let closure = SubstClosure::of_row(SubId(row));
-        let outermost = match subst_head(&rows, &mut environments, closure)? {
-            SubstHead::Shift(by) => Outermost::Shift(by),
-            SubstHead::Push(_, tree) => match head_of(&rows, &mut environments, tree)? {
-                Head::Var(index) => Outermost::Push(index),
-                Head::Make(_, _, _) => return Err(Fail::from("an operator")),
-            },
-        };
-        assert_eq!(rt; outermost, want, "at {row}");
+        let found = outermost_of(&rt, rt.alloc(), &rows, SubId(row))?;
+        assert_eq!(rt; found, want, "at {row}");
     }
     Ok(())
 }
