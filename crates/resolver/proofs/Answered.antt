@@ -11,7 +11,8 @@ use Rattle.translation.specs.Texts.{word}
 use Rattle.translation.specs.Forms.{Means}
 use Rattle.codes.specs.declared.code.Code.{Code}
 use Rattle.codes.specs.Codes.{meaning}
-use Rattle.codes.specs.Shapes.{shape, Universe, PairSide}
+use Rattle.codes.specs.declared.code.Opened.{Opened}
+use Rattle.codes.specs.Shapes.{Shape, shape, Universe, PairSide}
 use Rattle.scopes.specs.declared.names.Found.{Found}
 use Rattle.scopes.specs.declared.names.Found.TheVariants as found
 use Rattle.scopes.specs.declared.names.Binding.TheVariants as binding
@@ -24,6 +25,7 @@ use Rattle.readings.specs.Shaped.{Becomes, IsTerm, IsPair, Pair as PairAt}
 use Rattle.readings.proofs.Shaping.{Same}
 use Rattle.readings.proofs.Slices.{front_one, rest_after}
 use Rattle.resolver.specs.declared.systems.Pair.{Pair}
+use Rattle.resolver.specs.Opening.{IsUnder}
 
 pub pair_answer_is : {E : Type 0} (s t : State) {f h : Means Word (Tree × Tree)} (r : Result Pair E)
     → f ≡ h → IfOk r (λ p. Resolves s t f (code_pair p.ty p.equivalence)) → IfOk r (λ p. Resolves s t h (code_pair p.ty p.equivalence))
@@ -36,6 +38,12 @@ pub made_answers : {E : Type 0} {s t : State} {f : Means Word Tree} {g : Means �
 unfolding code_term
 made_answers (Ok c) e k = k c e
 made_answers (Err x) e k = tt
+
+-- whatever stands opened there
+pub opened_fits : {E : Type 0} {s : Span} {f : Means ℕ Tree} {like : Shape} {P : Opened → Type 0} (r : Result Opened E)
+    → IfOk r (IsUnder s f like) → ((o : Opened) → IsUnder s f like o → P o) → IfOk r P
+opened_fits (Ok o) h k = k o h
+opened_fits (Err x) h k = tt
 
 module _ {E : Type 0} (bytes : List ℕ) (s t : State) (n : Span) (es : List Element) (f : Found) (r : Result Code E) (found_is : f ≡ find s.names (word bytes n)) where
   -- too few arguments for a name that takes some of its own

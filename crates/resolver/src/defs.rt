@@ -18,9 +18,10 @@ ghost use Rattle.readings.specs.Spelt.{
 };
 
 use crate::resolving::Resolver;
+use crate::teles::binder;
 use codes::{Binder, CodeDef};
 use readings::with_locals;
-use scopes::{Binding, Place};
+use scopes::Place;
 use std::alloc::AllocError;
 use syntax::{Def, Tele};
 use translation::span_of;
@@ -85,12 +86,7 @@ impl<'a> Resolver<'a> {
         let mut binders = Vec::new(self.names.alloc);
         for tele in teles {
             let ty = self.exp(place, &tele.ty)?;
-            let names = tele.names.as_slice();
-            self.names.bind_all(place, names, Binding::Variable)?;
-            binders.push(Binder {
-                names: names.len(),
-                ty,
-            })?;
+            binders.push(binder(&self.names, place, tele, ty)?)?;
         }
         Ok(binders)
     }

@@ -18,8 +18,10 @@ mod exps;
 mod gluing;
 mod kan;
 mod opened;
+mod opening;
 mod resolving;
 mod systems;
+mod teles;
 
 pub use codes::{
     Binder, Code, CodeDef, Element, Equation, Formula, LineSide, Opened, PairSide, Side,

@@ -5,10 +5,11 @@ ghost use Rattle.scopes.specs.Steps.{Resolves};
 ghost use Rattle.readings.specs.Shaped.{IsLine, IsMotive};
 ghost use Rattle.readings.specs.Spelt.{code_line, code_motive, line_of, motive_of};
 
+use crate::opening::{line_under, motive_under, open_at};
 use crate::resolving::Resolver;
 use codes::{Code, Opened};
 use layout_lexer::Span;
-use readings::{built_in_nat, over_numbers};
+use readings::built_in_nat;
 use scopes::{Binding, Place};
 use std::alloc::AllocError;
 use syntax::Exp;
@@ -44,12 +45,10 @@ impl<'a> Resolver<'a> {
                 [] => self.line(place, span, body),
                 [first, rest @ ..] => {
                     let mark = place.mark();
-                    place.bind(self.names.spelling(*first), Binding::Interval)?;
-                    self.names.bind_all(place, rest, Binding::Interval)?;
+                    open_at(&self.names, place, *first, rest, Binding::Interval)?;
                     let body = self.exp(place, body)?;
                     place.cut(mark);
-                    let body = Code::path_lambda(self.names.alloc, span, rest.len(), body)?;
-                    Ok(Opened::Under(span, body))
+                    line_under(self.names.alloc, span, rest.len(), body)
                 }
             },
             _ => Ok(Opened::Applied(span, self.exp(place, exp)?)),
@@ -98,15 +97,13 @@ impl<'a> Resolver<'a> {
                     match (nat, first.names.as_slice()) {
                         (Some(nat), [name, others @ ..]) => {
                             let mark = place.mark();
-                            place.bind(self.names.spelling(*name), Binding::Variable)?;
-                            self.names.bind_all(place, others, Binding::Variable)?;
+                            open_at(&self.names, place, *name, others, Binding::Variable)?;
                             let binders = self.binders(place, rest)?;
                             let body = self.exp(place, body)?;
                             place.cut(mark);
                             let alloc = self.names.alloc;
                             let body = Code::lambda(alloc, span, binders, body)?;
-                            let body = over_numbers(alloc, span, others.len(), nat, body)?;
-                            Ok(Opened::Under(span, body))
+                            motive_under(alloc, span, others.len(), nat, body)
                         }
                         (Some(_), []) => Ok(Opened::Applied(span, self.exp(place, exp)?)),
                         (None, _) => Ok(Opened::Applied(span, self.exp(place, exp)?)),

@@ -1,11 +1,11 @@
-use Rattle.std.proofs.Common.{◌∷◌, length, get_or, map, is_some, codes, [], refl, sym, ap, ◌∙◌, subst, arith}
+use Rattle.std.proofs.Common.{◌∷◌, ◌++◌, get_or, map, is_some, codes, [], refl, sym, ap, ◌∙◌, subst, arith}
 use Rattle.codes.specs.declared.code.CodeDef.{out-CodeDef}
+use Rattle.readings.specs.Shaped.{IsLine, IsMotive}
 use Rattle.readings.specs.Spelt.{plain_of, words_of}
 use Rattle.translation.specs.Terms.{lam, pi, sig, universe}
 use Rattle.translation.specs.Forms.{all, project}
 use Rattle.translation.specs.Texts.{equations, word}
 use Rattle.scopes.specs.declared.names.Binding.TheVariants as binding
-use Rattle.scopes.specs.Steps.{all_bound_to}
 use Rattle.readings.proofs.Spelling.{let_is, lambda_is, path_lambda_is, pi_is, sigma_is, arrow_is, named_is, applied_is, path_type_is, comp_is, fill_is, transport_is, glue_type_is, glue_term_is, unglue_is, project_is, universe_is, name_is, brackets_is}
 use Rattle.readings.proofs.FormLaws.{answered, text_is, answer_is, line_answer_is, motive_answer_is, name_answered, plain_resolves, no_pair_resolves, let_resolves, under_resolves, path_lambda_resolves, arrow_resolves, application_resolves, path_type_resolves, comp_resolves, fill_resolves, transport_resolves, glue_type_resolves, glue_term_resolves, pair_resolves, unglue_resolves, project_resolves, universe_resolves, tuple_resolves}
 use Rattle.readings.proofs.Steps.{one_more, names_more, argument_element, at_element, exps_none, exps_more, elements_none, elements_more, sides_none, sides_more, line_sides_none, line_sides_more, pair_sides_none, pair_sides_more, binders_none, binders_more, block_none, block_more}
@@ -13,12 +13,12 @@ use Rattle.readings.proofs.Slices.{rest_after, none, only_one, begins, front_one
 use Rattle.readings.proofs.Others.{inside_brackets, inside_path, same_line, same_motive, same_pair, several_line, several_motive, none_pair, several_pair, names_line, names_motive, names_pair, bare_motive, other_type, no_variable, first_variable, other_line, other_motive, other_pair}
 use Rattle.readings.proofs.Openings.{applied_line, applied_motive, written_line, written_motive}
 use Rattle.readings.proofs.Applied.{leading_none, leading_more, suc_named, natrec_named}
-use Rattle.resolver.proofs.Answered.{few_named, four_arguments, front_any, made_answers, defined_names, no_span, other_named, pair_answer_is, pair_refused, pair_seen}
+use Rattle.resolver.proofs.Answered.{few_named, four_arguments, front_any, made_answers, defined_names, no_span, opened_fits, other_named, pair_answer_is, pair_refused, pair_seen}
 use Rattle.layout_lexer.specs.declared.token.Span.{Span}
 use Rattle.readings.proofs.Definitions.{def_resolves}
 use Rattle.readings.specs.Spelt.{code_terms, motive_of, terms_of}
 use Rattle.scopes.specs.Finding.{find}
-use Rattle.scopes.specs.Steps.{Resolves, bound_to}
+use Rattle.scopes.specs.Steps.{Resolves}
 use Rattle.scopes.specs.declared.names.Found.TheVariants as found
 use Rattle.translation.specs.declared.built_in.BuiltIn.TheVariants as built_in
 use Rattle.readings.proofs.Shaping.{made, under_names, line_at, named_term, universe_term, name_term, brackets_term, tuple_spelt, suc_applied, natrec_applied, argument_spelt, at_spelt, brackets_seen, path_seen, line_seen, motive_seen, line_wrapped, motive_wrapped, pair_wrapped, several_line_spelt, several_motive_spelt, names_motive_spelt, none_pair_spelt, names_pair_spelt, written_line_spelt, bare_motive_spelt, opened_motive_spelt, several_pair_spelt, def_spelt, terms_spelt_none, terms_spelt_more, elements_spelt_none, elements_spelt_more, binders_spelt_none, binders_spelt_more, defs_spelt_none, defs_spelt_more, sides_spelt_none, sides_spelt_more, line_sides_spelt_none, line_sides_spelt_more, pair_sides_spelt_none, pair_sides_spelt_more, term_among, line_among, pair_among, element_among, terms_among, elements_among, sides_among, line_sides_among, pair_sides_among, names_bound, first_bound, equations_among, applied_term, plain_made, few_applied, other_applied, other_motive_spelt, nameless_motive_spelt}
@@ -281,15 +281,16 @@ binders-loop-tele-init t c =
 
 pub binders-loop-tele-preserved : goal.binders-loop-tele-preserved
 binders-loop-tele-preserved t c =
+    let bytes = c.args.self.now.names.bytes.now in
+    let more = one_more c.args.teles.now c.loop-tele.tele-index c.tele-item.result (omega arith) c.tele-item.is in
+    let bound = c.in_ok-binder.ensures.binds in
+    let pushed = c.in_ok-push.ensures.items ∙ ap (λ b. c.loop-tele.binders.items ++ b ∷ []) c.in_ok-binder.ensures.made in
+    let type = c.in_ok-ty.ensures in
     record {
-      resolves =
-          binders_more c.args.self.now.names.bytes.now _ _ _ _ _ _ (one_more c.args.teles.now c.loop-tele.tele-index c.tele-item.result (omega arith) c.tele-item.is)
-          c.in_ok-push.ensures.items (ap length c.as_slice-names.ensures)
-          (c.in_ok-bind_all.ensures ∙ ap (λ ns. all_bound_to c.exp.new.place (words_of c.args.self.now.names.bytes.now ns) binding.Variable) c.as_slice-names.ensures) c.loop-tele.invariant.resolves c.in_ok-ty.ensures.resolves;
+      resolves = binders_more bytes _ _ _ _ _ _ more pushed refl bound c.loop-tele.invariant.resolves type.resolves;
       spelt =
-          binders_spelt_more _ _ _ _ _ _ _ (one_more c.args.teles.now c.loop-tele.tele-index c.tele-item.result (omega arith) c.tele-item.is) c.in_ok-push.ensures.items (ap length c.as_slice-names.ensures)
-          (names_bound c.exp.new.place _ (words_of c.args.self.now.names.bytes.now c.tele-item.result.names) binding.Variable (c.in_ok-bind_all.ensures ∙ ap (λ ns. all_bound_to c.exp.new.place (words_of c.args.self.now.names.bytes.now ns) binding.Variable) c.as_slice-names.ensures)
-          c.in_ok-ty.ensures.resolves.keeps.names) c.loop-tele.invariant.spelt c.in_ok-ty.ensures.spelt;
+          binders_spelt_more _ _ _ _ _ _ _ more pushed refl (names_bound c.exp.new.place _ (words_of bytes c.tele-item.result.names) binding.Variable bound type.resolves.keeps.names)
+          c.loop-tele.invariant.spelt type.spelt;
     }
 
 pub block-loop-def-init : goal.block-loop-def-init
@@ -355,15 +356,15 @@ line-returns-in-empty-as_slice-clause-resolves t c =
     (same_line bytes _ _ (inside_path bytes c.in-PathLambda.span c.in-PathLambda.names c.in-PathLambda.body c.in-PathLambda.is c.as_slice-in-PathLambda.ensures empty c.deref.ensures))
     c.line-in-empty-as_slice.ensures.resolves
 
-pub line-returns-in_ok-body-in-len1-up-2-clause-resolves : goal.line-returns-in_ok-body-in-len1-up-2-clause-resolves
-line-returns-in_ok-body-in-len1-up-2-clause-resolves t c =
+pub line-returns-in_ok-body-in-len1-up-clause-resolves : goal.line-returns-in_ok-body-in-len1-up-clause-resolves
+line-returns-in_ok-body-in-len1-up-clause-resolves t c =
     let bytes = c.args.self.now.names.bytes.now in
     let names = c.as_slice-in-PathLambda.result.now in
     let x : Span = get_or names 0 no_span in
+    opened_fits c.line_under.result c.line_under.ensures (λ l under.
     text_is (names_line bytes c.in-PathLambda.span x (rest_after 1 names) c.in-PathLambda.body c.in-PathLambda.is (sym c.as_slice-in-PathLambda.ensures ∙ front_any names no_span c.in-len1-up.len_at_least) c.deref-in-len1-up.ensures)
-    (written_line bytes x (rest_after 1 names) _ c.in_ok-body-in-len1-up.body c.in_ok-body-in-len1-up-2.body _ c.mark-mark.ensures refl
-    (c.in_ok-bind-in-len1-up.ensures.ok ∙ ap (λ w. bound_to c.args.place.now w binding.Interval) c.spelling.ensures) c.in_ok-bind_all-in-len1-up.ensures
-    c.in_ok-body-in-len1-up.ensures.resolves c.cut.ensures c.in_ok-body-in-len1-up-2.ensures.means refl)
+    (written_line bytes x (rest_after 1 names) _ c.in_ok-body-in-len1-up.body under.code l c.mark-mark.ensures refl refl c.in_ok-open_at-in-len1-up.ensures
+    c.in_ok-body-in-len1-up.ensures.resolves c.cut.ensures under.means under.opened))
 
 pub line-returns-in_ok-exp-in_default-clause-resolves : goal.line-returns-in_ok-exp-in_default-clause-resolves
 line-returns-in_ok-exp-in_default-clause-resolves t c =
@@ -497,19 +498,20 @@ motive-returns-in_ok-exp-in-Some-empty-clause-resolves t c =
     (c.built_in_nat-nat.ensures.told G H a ∙ ap is_some c.in-Some-empty.is-0))
     c.in_ok-exp-in-Some-empty.ensures.resolves
 
-pub motive-returns-in_ok-body-in-Some-len1-up-3-clause-resolves : goal.motive-returns-in_ok-body-in-Some-len1-up-3-clause-resolves
-motive-returns-in_ok-body-in-Some-len1-up-3-clause-resolves t c =
+pub motive-returns-in_ok-body-in-Some-len1-up-2-clause-resolves : goal.motive-returns-in_ok-body-in-Some-len1-up-2-clause-resolves
+motive-returns-in_ok-body-in-Some-len1-up-2-clause-resolves t c =
     let bytes = c.args.self.now.names.bytes.now in
     let xs = c.as_slice-in-Lambda.result.now in
     let x = c.first-item.result in
     let names = c.as_slice-in-len1-up-as_slice.result.now in
     let v : Span = get_or names 0 no_span in
-    written_motive bytes v (rest_after 1 names) (rest_after 1 xs) _ _ c.in_ok-body-in-Some-len1-up.body c.in_ok-body-in-Some-len1-up-2.body c.in_ok-body-in-Some-len1-up-3.body _ (motive_of bytes c.args.exp.now)
-    c.mark-mark.ensures refl (c.in_ok-bind-in-Some-len1-up.ensures.ok ∙ ap (λ w. bound_to c.args.place.now w binding.Variable) c.spelling.ensures) c.in_ok-bind_all-in-Some-len1-up.ensures c.in_ok-binders-in-Some-len1-up.ensures.resolves
-    c.in_ok-body-in-Some-len1-up.ensures.resolves c.cut.ensures c.in_ok-body-in-Some-len1-up-2.ensures.means c.in_ok-body-in-Some-len1-up-3.ensures.means refl
+    opened_fits c.motive_under.result c.motive_under.ensures (λ m under.
+    written_motive bytes v (rest_after 1 names) (rest_after 1 xs) _ _ c.in_ok-body-in-Some-len1-up.body c.in_ok-body-in-Some-len1-up-2.body under.code m (motive_of bytes c.args.exp.now)
+    c.mark-mark.ensures refl refl c.in_ok-open_at-in-Some-len1-up.ensures c.in_ok-binders-in-Some-len1-up.ensures.resolves
+    c.in_ok-body-in-Some-len1-up.ensures.resolves c.cut.ensures c.in_ok-body-in-Some-len1-up-2.ensures.means under.means under.opened
     (λ G H a. first_variable bytes c.in-Lambda.span c.in-Lambda.teles c.in-Lambda.body x (rest_after 1 xs) c.in-Lambda.is c.as_slice-in-Lambda.ensures
     (front_one xs x c.in-len1-up-as_slice.len_at_least c.first-item.is) c.deref-in-Some-len1-up.ensures v (rest_after 1 names) G
-    (sym c.as_slice-in-len1-up-as_slice.ensures ∙ front_any names no_span c.in-Some-len1-up.len_at_least) (c.built_in_nat-nat.ensures.told G H a ∙ ap is_some c.in-Some-len1-up.is-0))
+    (sym c.as_slice-in-len1-up-as_slice.ensures ∙ front_any names no_span c.in-Some-len1-up.len_at_least) (c.built_in_nat-nat.ensures.told G H a ∙ ap is_some c.in-Some-len1-up.is-0)))
 
 pub named-returns-in-BuiltIn-Nat-clause-resolves : goal.named-returns-in-BuiltIn-Nat-clause-resolves
 named-returns-in-BuiltIn-Nat-clause-resolves t c =
@@ -839,14 +841,17 @@ pub motive-returns-in_ok-exp-in_default-clause-spelt : goal.motive-returns-in_ok
 motive-returns-in_ok-exp-in_default-clause-spelt t c =
     record { becomes = motive_wrapped c.args.span c.in_default.not-Brackets c.in_default.not-PathLambda c.in_ok-exp-in_default.ensures.spelt c.in_default.not-Lambda }
 
-pub line-returns-in_ok-body-in-len1-up-2-clause-spelt : goal.line-returns-in_ok-body-in-len1-up-2-clause-spelt
-line-returns-in_ok-body-in-len1-up-2-clause-spelt t c =
+pub line-returns-in_ok-body-in-len1-up-clause-spelt : goal.line-returns-in_ok-body-in-len1-up-clause-spelt
+line-returns-in_ok-body-in-len1-up-clause-spelt t c =
+    let bytes = c.args.self.now.names.bytes.now in
     let names = c.as_slice-in-PathLambda.result.now in
     let x : Span = get_or names 0 no_span in
-    written_line_spelt c.args.span c.in-PathLambda.span x _ (rest_after 1 names) c.in-PathLambda.body c.in_ok-body-in-len1-up.body c.in_ok-body-in-len1-up-2.body c.in-PathLambda.is
+    opened_fits c.line_under.result c.line_under.ensures (λ l under.
+    subst (IsLine bytes c.args.place.now.names c.args.span c.args.exp.now) (sym under.opened)
+    (written_line_spelt c.args.span c.in-PathLambda.span x _ (rest_after 1 names) c.in-PathLambda.body c.in_ok-body-in-len1-up.body under.code c.in-PathLambda.is
     (sym c.as_slice-in-PathLambda.ensures ∙ front_any names no_span c.in-len1-up.len_at_least) c.deref-in-len1-up.ensures
-    (first_bound c.args.place.now _ _ (word c.args.self.now.names.bytes.now x) (words_of c.args.self.now.names.bytes.now (rest_after 1 names)) binding.Interval (c.in_ok-bind-in-len1-up.ensures.ok ∙ ap (λ w. bound_to c.args.place.now w binding.Interval) c.spelling.ensures)
-    c.in_ok-bind_all-in-len1-up.ensures) c.in_ok-body-in-len1-up.ensures.spelt c.in_ok-body-in-len1-up-2.ensures.shaped
+    (first_bound c.args.place.now _ _ (word bytes x) (words_of bytes (rest_after 1 names)) binding.Interval refl c.in_ok-open_at-in-len1-up.ensures)
+    c.in_ok-body-in-len1-up.ensures.spelt under.shaped))
 
 pub motive-returns-in_ok-exp-in-len1-up-clause-spelt : goal.motive-returns-in_ok-exp-in-len1-up-clause-spelt
 motive-returns-in_ok-exp-in-len1-up-clause-spelt t c =
@@ -873,19 +878,21 @@ motive-returns-in_ok-exp-in-Some-empty-clause-spelt t c =
     nameless_motive_spelt c.args.span _ c.in_ok-exp-in-Some-empty.ensures.spelt c.in-Lambda.span c.in-Lambda.teles c.in-Lambda.body x (rest_after 1 xs) c.in-Lambda.is c.as_slice-in-Lambda.ensures
     (front_one xs x c.in-len1-up-as_slice.len_at_least c.first-item.is) (sym c.as_slice-in-len1-up-as_slice.ensures ∙ none c.as_slice-in-len1-up-as_slice.result.now (omega (arith, c.in-Some-empty.len_below)))
 
-pub motive-returns-in_ok-body-in-Some-len1-up-3-clause-spelt : goal.motive-returns-in_ok-body-in-Some-len1-up-3-clause-spelt
-motive-returns-in_ok-body-in-Some-len1-up-3-clause-spelt t c =
+pub motive-returns-in_ok-body-in-Some-len1-up-2-clause-spelt : goal.motive-returns-in_ok-body-in-Some-len1-up-2-clause-spelt
+motive-returns-in_ok-body-in-Some-len1-up-2-clause-spelt t c =
+    let bytes = c.args.self.now.names.bytes.now in
     let xs = c.as_slice-in-Lambda.result.now in
     let x = c.first-item.result in
     let names = c.as_slice-in-len1-up-as_slice.result.now in
     let v : Span = get_or names 0 no_span in
-    opened_motive_spelt c.args.span c.in-Lambda.span v c.in-Some-len1-up.nat (rest_after 1 names) x (rest_after 1 xs) c.in-Lambda.teles c.in-Lambda.body
-    c.in_ok-body-in-Some-len1-up.body c.in_ok-body-in-Some-len1-up-2.body c.in_ok-body-in-Some-len1-up-3.body c.in-Lambda.is c.as_slice-in-Lambda.ensures
+    opened_fits c.motive_under.result c.motive_under.ensures (λ m under.
+    subst (IsMotive bytes c.args.place.now.names c.args.span c.args.exp.now) (sym under.opened)
+    (opened_motive_spelt c.args.span c.in-Lambda.span v c.in-Some-len1-up.nat (rest_after 1 names) x (rest_after 1 xs) c.in-Lambda.teles c.in-Lambda.body
+    c.in_ok-body-in-Some-len1-up.body c.in_ok-body-in-Some-len1-up-2.body under.code c.in-Lambda.is c.as_slice-in-Lambda.ensures
     (front_one xs x c.in-len1-up-as_slice.len_at_least c.first-item.is) (sym c.as_slice-in-len1-up-as_slice.ensures ∙ front_any names no_span c.in-Some-len1-up.len_at_least)
     c.deref-in-Some-len1-up.ensures (sym c.built_in_nat-nat.ensures.named ∙ c.in-Some-len1-up.is-0)
-    (first_bound c.args.place.now _ _ (word c.args.self.now.names.bytes.now v) (words_of c.args.self.now.names.bytes.now (rest_after 1 names)) binding.Variable (c.in_ok-bind-in-Some-len1-up.ensures.ok ∙ ap (λ w. bound_to c.args.place.now w binding.Variable) c.spelling.ensures)
-    c.in_ok-bind_all-in-Some-len1-up.ensures) c.in_ok-binders-in-Some-len1-up.ensures.spelt
-    c.in_ok-body-in-Some-len1-up.ensures.spelt c.in_ok-body-in-Some-len1-up-2.ensures.shaped c.in_ok-body-in-Some-len1-up-3.ensures.shaped
+    (first_bound c.args.place.now _ _ (word bytes v) (words_of bytes (rest_after 1 names)) binding.Variable refl c.in_ok-open_at-in-Some-len1-up.ensures)
+    c.in_ok-binders-in-Some-len1-up.ensures.spelt c.in_ok-body-in-Some-len1-up.ensures.spelt c.in_ok-body-in-Some-len1-up-2.ensures.shaped under.shaped))
 
 pub no_pair-returns-clause-spelt : goal.no_pair-returns-clause-spelt
 no_pair-returns-clause-spelt t c =
