@@ -1,5 +1,5 @@
 -- What a form answers, where a code means the same.
-use Rattle.std.proofs.Common.{◌≡◌, ◌+◌, ◌<◌, ℕ, List, [], ◌∷◌, ◌++◌, take, length, get_or, Some, Result, Ok, Err, IfOk, refl, sym, ap, ◌∙◌, subst}
+use Rattle.std.proofs.Common.{◌≡◌, ◌+◌, ◌<◌, ℕ, List, [], ◌∷◌, ◌++◌, take, length, get_or, Some, Result, Ok, Err, IfOk, OnOk, refl, sym, ap, ◌∙◌, subst}
 use Rattle.std.specs.Prelude.{option_and_then}
 use Rattle.trees.specs.declared.op.Op.{Op}
 use Rattle.trees.specs.Operators.{kids_of}
@@ -24,6 +24,15 @@ spells_by {A} {Q} {s} {t} {p} e h = subst (λ k. Spells s t p Q k) e h
 pub answer_is : {E : Type 0} (s t : State) (p : Place) {m n : Means ℕ Tree} (r : Result ℕ E) → m ≡ n → IfOk r (λ a. Spells s t p (Row a) m) → IfOk r (λ a. Spells s t p (Row a) n)
 answer_is s t p (Ok a) e h = spells_by e h
 answer_is s t p (Err x) e h = tt
+
+-- an answer says more
+pub if_ok : {A E : Type 0} {P Q : A → Type 0} (r : Result A E) → ((a : A) → P a → Q a) → IfOk r P → IfOk r Q
+if_ok (Ok a) more h = more a h
+if_ok (Err x) more h = tt
+
+pub on_ok : {A E : Type 0} {P Q : Type 0} (r : Result A E) → (P → Q) → OnOk r P → OnOk r Q
+on_ok (Ok a) more h = more h
+on_ok (Err x) more h = tt
 
 -- a state is made of itself by no row
 pub makes_same : (s : State) → Makes s s

@@ -13,8 +13,8 @@ use Rattle.translation.specs.Forms.{Means, types, equivalences}
 use Rattle.form_rows.specs.Meant.{Is}
 use Rattle.form_rows.proofs.RowLaws.{kept_then, is_kept, are_none, are_one, are_three, are_four, is_made, may_make}
 use Rattle.judgement_rows.specs.declared.places.Place.{Place}
-use Rattle.judgement_rows.specs.declared.sides.System.{System}
-use Rattle.judgement_rows.specs.declared.sides.PairSystem.{PairSystem}
+use Rattle.judgement_rows.specs.declared.systems.System.{System}
+use Rattle.judgement_rows.specs.declared.systems.PairSystem.{PairSystem}
 use Rattle.judgement_rows.specs.Steps.{State, FitsSome, Spells, Row}
 use Rattle.judgement_rows.specs.Words.{IsSystem, IsLineSystem, IsPairSystem}
 use Rattle.judgement_rows.proofs.Moving.{Makes, given, some_after}

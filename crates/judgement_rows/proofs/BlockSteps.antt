@@ -10,10 +10,10 @@ use Rattle.codes.specs.declared.code.CodeDef.{CodeDef, out-CodeDef, roll-out-Cod
 use Rattle.codes.specs.Codes.{meaning, binder, definition, definitions}
 use Rattle.codes.proofs.Rows.{definition_of}
 use Rattle.form_rows.specs.Meant.{Is, Are, nest}
-use Rattle.form_rows.proofs.RowLaws.{kept_then, is_kept, are_kept, take_whole}
+use Rattle.form_rows.proofs.RowLaws.{is_kept, are_kept, take_whole}
 use Rattle.judgement_rows.specs.declared.places.Place.{Place}
 use Rattle.judgement_rows.specs.declared.places.Under.{Under}
-use Rattle.judgement_rows.specs.Steps.{State, Spells, Row}
+use Rattle.judgement_rows.specs.Steps.{Closed, State, Spells, Row}
 use Rattle.judgement_rows.specs.Words.{IsUnder, Defines, code_tree, under_trees, def_scope, block_scope}
 use Rattle.judgement_rows.proofs.Blocks.{block_none, block_push, defines_then, defines_same, definition_spelt}
 
@@ -36,16 +36,27 @@ definition_reads d = let o = out-CodeDef d in sym (definition_of o.name o.number
 pub two_more : {A : Type 0} (xs : List A) {ys zs : List A} (a b : A) → ys ≡ xs ++ a ∷ [] → zs ≡ ys ++ b ∷ [] → zs ≡ xs ++ a ∷ b ∷ []
 two_more xs a b i j = j ∙ ap (λ ws. ws ++ b ∷ []) i ∙ append_assoc xs (a ∷ []) (b ∷ [])
 
-pub definition_made : {s t w x z : State} {f : Meanings} {p : Place} {u : Under} {ty row closed_ty closed_row : ℕ} (d : CodeDef) → (let o = out-CodeDef d in
-    Spells s t p (IsUnder u) (under_trees o.binders.items) → Spells t w u.place (Row ty) (code_tree o.ty) → Spells w x u.place (Row row) (code_tree o.body)
-    → Kept x.means f → ((ts : List Tree) (t : Tree) → Are x.means u.types.items ts → Is x.means ty t → Is f closed_ty (nest op.Pi ts t))
-    → Kept f z.means → ((ts : List Tree) (t : Tree) → Are f u.types.items ts → Is f row t → Is z.means closed_row (nest op.Lam ts t))
-    → z.claims ≡ x.claims ++ claim.Ty p.context closed_ty ∷ claim.Tm p.context closed_row closed_ty ∷ []
-    → z.bodies ≡ x.bodies ++ record { number = o.number; value = record { row = closed_row; depth = p.depth } } ∷ []
-    → Defines s z p (def_scope d))
+pub closed : {x z : State} {f : Meanings} {p : Place} {types : List ℕ} {number ty body closed_ty closed_body : ℕ}
+    → Kept x.means f → ((ts : List Tree) (t : Tree) → Are x.means types ts → Is x.means ty t → Is f closed_ty (nest op.Pi ts t))
+    → Kept f z.means → ((ts : List Tree) (t : Tree) → Are f types ts → Is f body t → Is z.means closed_body (nest op.Lam ts t))
+    → z.claims ≡ x.claims ++ claim.Ty p.context closed_ty ∷ claim.Tm p.context closed_body closed_ty ∷ []
+    → z.bodies ≡ x.bodies ++ record { number = number; value = record { row = closed_body; depth = p.depth } } ∷ []
+    → Closed x z p number types ty body
+closed {closed_ty = closed_ty} {closed_body = closed_body} j types k bodies claims more = record {
+  closed_ty = closed_ty;
+  closed_body = closed_body;
+  ty_is = λ As B i h. is_kept k (types As B i h);
+  body_is = λ As b i h. bodies As b (are_kept j i) (is_kept j h);
+  claims = claims;
+  bodies = more;
+}
+
+pub definition_made : {s t w x z : State} {p : Place} {u : Under} {ty body : ℕ} (d : CodeDef) → (let o = out-CodeDef d in
+    Spells s t p (IsUnder u) (under_trees o.binders.items) → Spells t w u.place (Row ty) (code_tree o.ty) → Spells w x u.place (Row body) (code_tree o.body)
+    → Kept x.means z.means → Closed x z p o.number u.types.items ty body → Defines s z p (def_scope d))
 unfolding under_trees code_tree def_scope
-definition_made {s} {t} {w} {x} {z} {f} {p} {u} {ty} {row} {closed_ty} {closed_row} d first second third j types k bodies claims more =
+definition_made {s} {t} {w} {x} {z} {p} {u} {ty} {body} d first second third kept closed =
     let o = out-CodeDef d in
     subst (λ m. Defines s z p m) (definition_reads d)
-    (definition_spelt s t w x z p u o.binders.items (meaning o.ty) (meaning o.body) ty row closed_ty closed_row o.number first second third (kept_then j k)
-    (λ As B i h. is_kept k (types As B i h)) (λ As b i h. bodies As b (are_kept j i) (is_kept j h)) claims more)
+    (definition_spelt s t w x z p u o.binders.items (meaning o.ty) (meaning o.body) ty body closed.closed_ty closed.closed_body o.number first second third kept
+    closed.ty_is closed.body_is closed.claims closed.bodies)

@@ -1,15 +1,18 @@
 -- Forms of several parts, and rows that are made of those of the parts.
-use Rattle.std.proofs.Common.{◌≡◌, ℕ, ◌∷◌, ◌++◌, refl, ap, ◌∙◌, subst}
+use Rattle.std.proofs.Common.{◌≡◌, ℕ, List, ◌∷◌, ◌++◌, refl, ap, ◌∙◌, subst}
 use Rattle.trees.specs.Trees.{Tree}
 use Rattle.trees.specs.Things.{Meanings, Kept}
 use Rattle.rows.specs.Views.{IsTree, IsContext}
 use Rattle.translation.specs.Scopes.{Scope, context_of, Variable, Interval, Face}
 use Rattle.translation.specs.Translated.{Translated, done, ◌>>=◌}
 use Rattle.translation.specs.Forms.{Means}
+use Rattle.codes.specs.declared.formula.Equation.{Equation}
 use Rattle.form_rows.specs.Meant.{Is}
+use Rattle.form_rows.specs.Formulas.{face_tree}
 use Rattle.form_rows.proofs.RowLaws.{kept_then, tree_of_is, is_of}
 use Rattle.judgement_rows.specs.declared.places.Place.{Place}
-use Rattle.judgement_rows.specs.Places.{OpenedIn, NamedIn, FacedIn}
+use Rattle.judgement_rows.specs.declared.places.Faced.{Faced}
+use Rattle.judgement_rows.specs.Places.{OpenedIn, NamedIn, HoldIn}
 use Rattle.judgement_rows.specs.Steps.{State, Fits, FitsSome, Moves, Spells, Row}
 use Rattle.judgement_rows.proofs.Moving.{moves_done, moves_then, fits_kept, fits_name, fits_variable, fits_face, given, Makes, spells_then}
 
@@ -82,8 +85,8 @@ some_name {s} {t} {p} {q} more named h = (Interval 0 ∷ h.0, fits_name s t p q 
 pub some_variable : {s t : State} {p q : Place} {ty : ℕ} → Makes s t → OpenedIn s.means t.means p ty q → IsTree (s.means ty) → FitsSome s p → FitsSome t q
 some_variable {s} {t} {p} {q} {ty} more opened a h = (Variable 0 a.0 ∷ h.0, fits_variable s t p q ty h.0 a.0 more.kept more.bodies opened (is_of s.means ty a) h.1)
 
-pub some_face : {s t : State} {p q : Place} {face : ℕ} → Makes s t → FacedIn s.means t.means p face q → IsTree (s.means face) → FitsSome s p → FitsSome t q
-some_face {s} {t} {p} {q} {face} more faced a h = (Face a.0 ∷ h.0, fits_face s t p q face h.0 a.0 more.kept more.bodies faced (is_of s.means face a) h.1)
+pub some_face : {s t : State} {p : Place} {es : List Equation} {q : Faced} → Makes s t → HoldIn s.means t.means p es q → FitsSome s p → FitsSome t q.place
+some_face {s} {t} {p} {es} {q} more hold h = (Face (face_tree es) ∷ h.0, fits_face s t p es q h.0 more.kept more.bodies hold h.1)
 
 pub spells_in_name : {A : Type 0} {Q : State → A → Type 0} {m : Means ℕ A} {s t u : State} {p q : Place} → Makes s t → NamedIn s.means t.means p q → Spells t u q Q m → Spells s u p Q (λ H. m (Interval 0 ∷ H))
 spells_in_name {A} {Q} {m} {s} {t} {u} {p} {q} more named a = record {
@@ -100,13 +103,15 @@ spells_in_variable {A} {Q} {m} {s} {t} {u} {p} {q} {ty} {T} more opened is a = r
   moves = λ H f. moves_later s t u Q (m (Variable 0 T ∷ H)) more (a.moves (Variable 0 T ∷ H) (fits_variable s t p q ty H T more.kept more.bodies opened is f));
 }
 
-pub spells_in_face : {A : Type 0} {Q : State → A → Type 0} {m : Means ℕ A} {s t u : State} {p q : Place} {face : ℕ} {T : Tree}
-    → Makes s t → FacedIn s.means t.means p face q → Is s.means face T → Spells t u q Q m → Spells s u p Q (λ H. m (Face T ∷ H))
-spells_in_face {A} {Q} {m} {s} {t} {u} {p} {q} {face} {T} more faced is a = record {
-  kept = kept_then more.kept a.kept;
-  bodies = a.bodies ∙ more.bodies;
-  moves = λ H f. moves_later s t u Q (m (Face T ∷ H)) more (a.moves (Face T ∷ H) (fits_face s t p q face H T more.kept more.bodies faced is f));
-}
+pub spells_in_face : {A : Type 0} {Q : State → A → Type 0} {m : Means ℕ A} {s t u : State} {p : Place} {es : List Equation} {q : Faced}
+    → Makes s t → HoldIn s.means t.means p es q → Spells t u q.place Q m → Spells s u p Q (λ H. m (Face (face_tree es) ∷ H))
+spells_in_face {A} {Q} {m} {s} {t} {u} {p} {es} {q} more hold a =
+    let T = face_tree es in
+    record {
+      kept = kept_then more.kept a.kept;
+      bodies = a.bodies ∙ more.bodies;
+      moves = λ H f. moves_later s t u Q (m (Face T ∷ H)) more (a.moves (Face T ∷ H) (fits_face s t p es q H more.kept more.bodies hold f));
+    }
 
 -- rows that were made before a part was spelt
 pub spells_later : {A : Type 0} {Q : State → A → Type 0} {m : Means ℕ A} {s t u : State} {p : Place} → Makes s t → Spells t u p Q m → Spells s u p Q m

@@ -1,6 +1,7 @@
 pub mod Moving
 pub mod UnderLaws
 pub mod SideLaws
+pub mod SystemLaws
 pub mod FormSteps
 pub mod Blocks
 pub mod PlaceLaws

@@ -12,14 +12,17 @@ use Rattle.translation.specs.Terms.{lifted}
 use Rattle.translation.specs.Scopes.{Scope, Variable, Interval, Face, context_of}
 use Rattle.translation.specs.Translated.{Translated, Stated, done, ◌>>=◌, judgements_of}
 use Rattle.translation.specs.Forms.{Means}
+use Rattle.codes.specs.declared.formula.Equation.{Equation}
 use Rattle.codes.specs.Codes.{body_of}
 use Rattle.codes.proofs.Logs.{append_empty, judgements_append, map_append}
 use Rattle.form_rows.specs.Meant.{Is}
+use Rattle.form_rows.specs.Formulas.{face_tree}
 use Rattle.form_rows.proofs.RowLaws.{kept_then, is_kept}
 use Rattle.judgement_rows.specs.declared.places.Place.{Place}
+use Rattle.judgement_rows.specs.declared.places.Faced.{Faced}
 use Rattle.judgement_rows.specs.declared.bodies.Body.{Body}
 use Rattle.numbered.specs.Newest.{newest}
-use Rattle.judgement_rows.specs.Places.{OpenedIn, NamedIn, FacedIn}
+use Rattle.judgement_rows.specs.Places.{OpenedIn, NamedIn, HoldIn}
 use Rattle.judgement_rows.specs.Steps.{State, Fits, FitsSome, StandsFor, Claims, Moves, Spells}
 
 -- claims go on to say what they say
@@ -124,12 +127,12 @@ fits_name s t p q H k e o h =
       bodies = λ n. stands_deeper t.means p.depth q.depth (newest t.bodies n) (body_of H n) o.depth (here.bodies n);
     }
 
-pub fits_face : (s t : State) (p q : Place) (face : ℕ) (H : Scope ℕ) (r : Tree) → Kept s.means t.means → t.bodies ≡ s.bodies → FacedIn s.means t.means p face q → Is s.means face r → Fits s p H
-    → Fits t q (Face r ∷ H)
-fits_face s t p q face H r k e o a h =
+pub fits_face : (s t : State) (p : Place) (es : List Equation) (q : Faced) (H : Scope ℕ) → Kept s.means t.means → t.bodies ≡ s.bodies → HoldIn s.means t.means p es q → Fits s p H
+    → Fits t q.place (Face (face_tree es) ∷ H)
+fits_face s t p es q H k e o h =
     let here = fits_kept s t p H k e h in
     record {
-      context = o.context (context_of H) r h.context a;
+      context = o.context (context_of H) h.context;
       depth = o.depth ∙ h.depth;
       bodies = λ n. subst (λ d. StandsFor t.means d (newest t.bodies n) (body_of H n)) (sym o.depth) (here.bodies n);
     }

@@ -1,5 +1,5 @@
 -- Places under one more name or variable than before.
-use Rattle.std.proofs.Common.{◌≡◌, ◌+◌, ◌-◌, min, ℕ, zero, suc, [], ◌∷◌, ◌++◌, Some, refl, sym, ap, ◌∙◌, subst, arith, append_assoc}
+use Rattle.std.proofs.Common.{◌≡◌, ◌+◌, ◌-◌, min, ℕ, List, zero, suc, [], ◌∷◌, ◌++◌, Some, refl, sym, ap, ◌∙◌, subst, arith, append_assoc}
 use Rattle.trees.specs.Trees.{Tree, apply, shift_by, up}
 use Rattle.trees.specs.Judgements.{Context, WithVar, WithName}
 use Rattle.trees.specs.Things.{Meanings, AContext, Kept}
@@ -8,11 +8,13 @@ use Rattle.rows.specs.Views.{IsContext, IsTree}
 use Rattle.substitution.proofs.ThenLaws.{apply-id, apply-apply, shift_by-then-shift_by}
 use Rattle.translation.specs.Terms.{lifted}
 use Rattle.codes.proofs.Logs.{append_empty}
+use Rattle.codes.specs.declared.formula.Equation.{Equation}
 use Rattle.form_rows.specs.Meant.{Is, Are}
+use Rattle.form_rows.specs.Formulas.{face_tree}
 use Rattle.form_rows.proofs.RowLaws.{kept_then, is_kept, are_kept, are_none, are_push, tree_of_is}
 use Rattle.judgement_rows.specs.declared.places.Place.{Place}
 use Rattle.judgement_rows.specs.declared.places.Under.{Under}
-use Rattle.judgement_rows.specs.Places.{NamedIn, AllNamedIn, OpenedIn, BoundIn, with_names, with_variables, copies}
+use Rattle.judgement_rows.specs.Places.{FacedIn, HoldIn, NamedIn, AllNamedIn, OpenedIn, BoundIn, with_names, with_variables, copies}
 
 -- names of the interval
 
@@ -106,3 +108,16 @@ naming_all {f} {g} {p} {q} h e = subst (λ k. AllNamedIn f g p k q) e h
 
 pub binding_all : {f g : Meanings} {p q : Under} {ty n m : ℕ} → BoundIn f g p q ty n → n ≡ m → BoundIn f g p q ty m
 binding_all {f} {g} {p} {q} {ty} h e = subst (λ k. BoundIn f g p q ty k) e h
+
+-- faces of equations
+
+pub context_kept : {f g : Meanings} {row : ℕ} → Kept f g → IsContext (f row) → IsContext (g row)
+context_kept {row = row} k h = (h.0, k.keeps row (AContext h.0) h.1)
+
+pub hold_in : {f g h : Meanings} {p q : Place} {face : ℕ} {es : List Equation} → Kept f g → Is g face (face_tree es) → Kept g h → FacedIn g h p face q
+    → HoldIn f h p es (record { face = face; place = q })
+hold_in {p = p} {es = es} k is l faced = record {
+  face = is_kept l is;
+  context = λ G e. faced.context G (face_tree es) (k.keeps p.context (AContext G) e) is;
+  depth = faced.depth;
+}

@@ -15,10 +15,11 @@ use Rattle.form_rows.specs.Meant.{Is, Are}
 use Rattle.form_rows.specs.Formulas.{face_tree}
 use Rattle.form_rows.proofs.RowLaws.{kept_then, is_kept, are_kept, are_none, are_push}
 use Rattle.judgement_rows.specs.declared.places.Place.{Place}
-use Rattle.judgement_rows.specs.Places.{FacedIn}
+use Rattle.judgement_rows.specs.declared.places.Faced.{Faced}
+use Rattle.judgement_rows.specs.Places.{HoldIn}
 use Rattle.judgement_rows.specs.Steps.{State, Spells}
 use Rattle.judgement_rows.proofs.Moving.{moves_as, moves_done, Makes}
-use Rattle.judgement_rows.proofs.FormSteps.{spells_same, spells_map, spells_two, spells_in_face, spells_later}
+use Rattle.judgement_rows.proofs.FormSteps.{spells_same, spells_map, spells_two, spells_in_face}
 use Rattle.judgement_rows.proofs.SideLaws.{side_is, all_push}
 
 -- another relation, later
@@ -52,19 +53,19 @@ pub record Pairs (rows others : List ℕ) (s : State) (ps : List (Tree × Tree))
 pub sides_none : {A : Type 0} (s : State) (p : Place) (V : State → List A → Type 0) → V s [] → Spells s s p (IsSides [] V) (system [])
 sides_none s p V h = codes_none s p (IsSides [] V) (record { faces = are_none s.means; values = h })
 
-pub sides_more : {A : Type 0} {V W : State → List A → Type 0} {Q : State → A → Type 0} {faces : List ℕ} {value : Means ℕ A} {s t w x y : State} {p q : Place} {face : ℕ} (xs : List (Side ℕ A)) (es : List Equation)
-    → Spells s t p (IsSides faces V) (system xs) → Makes t w → Is w.means face (face_tree es) → Makes w x → FacedIn w.means x.means p face q → Spells x y q Q value
-    → ((as' : List A) (a : A) → V t as' → Q y a → W y (as' ++ a ∷ [])) → Spells s y p (IsSides (faces ++ face ∷ []) W) (system (xs ++ side_of es value ∷ []))
-sides_more {A} {V} {W} {Q} {faces} {value} {s} {t} {w} {x} {y} {p} {q} {face} xs es first made is more faced second push =
+pub sides_more : {A : Type 0} {V W : State → List A → Type 0} {Q : State → A → Type 0} {faces : List ℕ} {value : Means ℕ A} {s t x y : State} {p : Place} {q : Faced} (xs : List (Side ℕ A)) (es : List Equation)
+    → Spells s t p (IsSides faces V) (system xs) → Makes t x → HoldIn t.means x.means p es q → Spells x y q.place Q value
+    → ((as' : List A) (a : A) → V t as' → Q y a → W y (as' ++ a ∷ [])) → Spells s y p (IsSides (faces ++ q.face ∷ []) W) (system (xs ++ side_of es value ∷ []))
+sides_more {A} {V} {W} {Q} {faces} {value} {s} {t} {x} {y} {p} {q} xs es first more hold second push =
     let T = face_tree es in
-    let all_kept : Kept t.means y.means = kept_then made.kept (kept_then more.kept second.kept) in
+    let all_kept : Kept t.means y.means = kept_then more.kept second.kept in
     let last : Spells t y p (λ v (o : On A). (o.face ≡ T) × Q v o.value) (side (side_of es value)) =
     spells_same (λ H. sym (side_is es value H))
-    (spells_map (on T) (spells_later made (spells_in_face more faced is second)) (record { kept = kept-same y.means; bodies = refl; claims = refl }) (λ a r. (refl, r))) in
-    subst (λ ms. Spells s y p (IsSides (faces ++ face ∷ []) W) (all ms)) (sym (map_append side xs (side_of es value ∷ [])))
+    (spells_map (on T) (spells_in_face more hold second) (record { kept = kept-same y.means; bodies = refl; claims = refl }) (λ a r. (refl, r))) in
+    subst (λ ms. Spells s y p (IsSides (faces ++ q.face ∷ []) W) (all ms)) (sym (map_append side xs (side_of es value ∷ [])))
     (codes_more (map side xs) first last (λ ss o r l. record {
-      faces = subst (Are y.means (faces ++ face ∷ [])) (sym (map_append (λ (z : On A). z.face) ss (o ∷ [])))
-          (are_push (are_kept all_kept r.faces) (subst (Is y.means face) (sym l.0) (is_kept (kept_then more.kept second.kept) is)));
+      faces = subst (Are y.means (faces ++ q.face ∷ [])) (sym (map_append (λ (z : On A). z.face) ss (o ∷ [])))
+          (are_push (are_kept all_kept r.faces) (subst (Is y.means q.face) (sym l.0) (is_kept second.kept hold.face)));
       values = subst (W y) (sym (map_append (λ (z : On A). z.value) ss (o ∷ []))) (push (map (λ (z : On A). z.value) ss) o.value r.values l.1);
     }))
 

@@ -4,8 +4,11 @@ use Rattle.trees.specs.Trees.{Tree}
 use Rattle.trees.specs.Judgements.{Context, WithVar, WithName, WithFace}
 use Rattle.trees.specs.Things.{Meanings, AContext}
 use Rattle.translation.specs.Terms.{lifted}
+use Rattle.codes.specs.declared.formula.Equation.{Equation}
 use Rattle.form_rows.specs.Meant.{Is, Are}
+use Rattle.form_rows.specs.Formulas.{face_tree}
 use Rattle.judgement_rows.specs.declared.places.Place.{Place}
+use Rattle.judgement_rows.specs.declared.places.Faced.{Faced}
 use Rattle.judgement_rows.specs.declared.places.Under.{Under}
 
 -- one variable, name or face further in
@@ -24,6 +27,13 @@ pub record FacedIn (f g : Meanings) (p : Place) (face : ℕ) (q : Place) : Type 
   pub context : (G : Context) (t : Tree) → f p.context ≡ Some (AContext G) → Is f face t
       → g q.context ≡ Some (AContext (WithFace G t))
   pub depth : q.depth ≡ p.depth
+
+-- the face of equations, and the place where they hold
+pub record HoldIn (f g : Meanings) (p : Place) (es : List Equation) (q : Faced) : Type 0 where
+  pub face : Is g q.face (face_tree es)
+  pub context : (G : Context) → f p.context ≡ Some (AContext G)
+      → g q.place.context ≡ Some (AContext (WithFace G (face_tree es)))
+  pub depth : q.place.depth ≡ p.depth
 
 -- under so many names
 

@@ -5,12 +5,14 @@ use Rattle.trees.specs.Trees.{Tree, apply, shift_by}
 use Rattle.trees.specs.Things.{Meanings, AContext, Kept}
 use Rattle.trees.specs.Claimed.{claimed}
 use Rattle.trees.specs.declared.claim.Claim.{Claim}
+use Rattle.trees.specs.declared.claim.Claim.TheVariants.{Ty, Tm}
+use Rattle.trees.specs.declared.op.Op.TheVariants.{Pi, Lam}
 use Rattle.translation.specs.Terms.{universe}
 use Rattle.translation.specs.Scopes.{Scope, Variable, Interval, Face, Definition, context_of}
 use Rattle.translation.specs.Translated.{Translated, Stated, judgements_of}
 use Rattle.translation.specs.Forms.{Means}
 use Rattle.codes.specs.Codes.{body_of}
-use Rattle.form_rows.specs.Meant.{Is}
+use Rattle.form_rows.specs.Meant.{Is, Are, nest}
 use Rattle.judgement_rows.specs.declared.places.Place.{Place}
 use Rattle.numbered.specs.declared.numbered.Numbered.{Numbered}
 use Rattle.judgement_rows.specs.declared.bodies.Body.{Body}
@@ -75,3 +77,16 @@ pub record Spells (old new : State) (p : Place) {A : Type 0} (R : State → A �
 
 abbrev pub Row : ℕ → State → Tree → Type 0
 Row row s t = Is s.means row t
+
+-- A type and a body were closed over variables of these types and claimed, and the body is kept.
+pub record Closed (old new : State) (p : Place) (number : ℕ) (types : List ℕ) (ty body : ℕ) : Type 0 where
+  pub closed_ty : ℕ
+  pub closed_body : ℕ
+  pub ty_is : (As : List Tree) (B : Tree) → Are old.means types As → Is old.means ty B
+      → Is new.means closed_ty (nest Pi As B)
+  pub body_is : (As : List Tree) (b : Tree) → Are old.means types As → Is old.means body b
+      → Is new.means closed_body (nest Lam As b)
+  pub claims : new.claims
+      ≡ old.claims ++ Ty p.context closed_ty ∷ Tm p.context closed_body closed_ty ∷ []
+  pub bodies : new.bodies ≡ old.bodies
+      ++ record { number = number; value = record { row = closed_body; depth = p.depth } } ∷ []

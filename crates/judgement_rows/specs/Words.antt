@@ -6,8 +6,8 @@ use Rattle.trees.specs.declared.op.Op.{Op}
 use Rattle.trees.specs.Trees.{Tree, Make, trees_of}
 use Rattle.trees.specs.Things.{Kept}
 use Rattle.translation.specs.Scopes.{Scope}
-use Rattle.translation.specs.Systems.{On, cover, body, line_body}
-use Rattle.translation.specs.Forms.{Means, all, apply_all, under, system, types, equivalences}
+use Rattle.translation.specs.Systems.{On}
+use Rattle.translation.specs.Forms.{Means, all, apply_all, under, system}
 use Rattle.codes.specs.declared.code.Code.{Code}
 use Rattle.codes.specs.declared.code.CodeDef.{CodeDef}
 use Rattle.codes.specs.declared.code.Opened.{Opened}
@@ -18,12 +18,13 @@ use Rattle.codes.specs.declared.code.LineSide.{LineSide}
 use Rattle.codes.specs.declared.code.PairSide.{PairSide}
 use Rattle.codes.specs.Codes.{meaning, at_name, at_variable, binder, element, term_side, line_side}
 use Rattle.codes.specs.Codes.{pair_side, definition, definitions}
-use Rattle.form_rows.specs.Meant.{Is, Are}
+use Rattle.form_rows.specs.Meant.{Are}
 use Rattle.judgement_rows.specs.declared.places.Place.{Place}
 use Rattle.judgement_rows.specs.declared.places.Under.{Under}
-use Rattle.judgement_rows.specs.declared.sides.System.{System}
-use Rattle.judgement_rows.specs.declared.sides.PairSystem.{PairSystem}
+use Rattle.judgement_rows.specs.declared.systems.System.{System}
+use Rattle.judgement_rows.specs.declared.systems.PairSystem.{PairSystem}
 use Rattle.judgement_rows.specs.Steps.{State, Fits, Moves}
+use Rattle.judgement_rows.specs.Systems.{SystemOf, LineSystemOf, PairSystemOf}
 use Rattle.judgement_rows.specs.Under.{entered}
 
 unfoldable pub code_tree : Code → Means ℕ Tree
@@ -73,18 +74,14 @@ pub record IsUnder (u : Under) (s : State) (e : List Tree × Scope ℕ) : Type 0
   pub types : Are s.means u.types.items e.0
   pub fits : Fits s u.place e.1
 
-pub record IsSystem (y : System) (s : State) (ss : List (On Tree)) : Type 0 where
-  pub cover : Is s.means y.cover (cover ss)
-  pub body : Is s.means y.body (body ss)
+abbrev pub IsSystem : System → State → List (On Tree) → Type 0
+IsSystem y s ss = SystemOf s.means y ss
 
-pub record IsLineSystem (y : System) (s : State) (ss : List (On Tree)) : Type 0 where
-  pub cover : Is s.means y.cover (cover ss)
-  pub body : Is s.means y.body (line_body ss)
+abbrev pub IsLineSystem : System → State → List (On Tree) → Type 0
+IsLineSystem y s ss = LineSystemOf s.means y ss
 
-pub record IsPairSystem (y : PairSystem) (s : State) (ss : List (On (Tree × Tree))) : Type 0 where
-  pub cover : Is s.means y.cover (cover ss)
-  pub types : Is s.means y.types (body (types ss))
-  pub equivalences : Is s.means y.equivalences (body (equivalences ss))
+abbrev pub IsPairSystem : PairSystem → State → List (On (Tree × Tree)) → Type 0
+IsPairSystem y s ss = PairSystemOf s.means y ss
 
 -- Definitions, after which the place is in the scope that they give: those that were in scope are
 -- there still.

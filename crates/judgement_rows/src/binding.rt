@@ -35,7 +35,7 @@ impl Spelling {
         let mark = self.bodies.mark();
         self.block(maker, place, locals)?;
         let row = self.code(maker, place, body)?;
-        self.bodies.cut(mark);
+        self.leave(mark);
         Ok(row)
     }
 

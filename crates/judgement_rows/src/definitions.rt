@@ -1,13 +1,14 @@
 //! Definitions, and the judgements that they state.
 
-ghost use Rattle.std.specs.Prelude.{◌≡◌, ℕ, [], map, Some, IfOk, OnOk};
+ghost use Rattle.std.specs.Prelude.{◌≡◌, ℕ, [], map, take, Some, IfOk, OnOk};
 ghost use Rattle.trees.specs.Things.{Kept};
 ghost use Rattle.trees.specs.Claimed.{claimed};
 ghost use Rattle.translation.specs.Scopes.{Scope};
 ghost use Rattle.translation.specs.Translated.{judgements_of};
 ghost use Rattle.codes.specs.Codes.{body_of, definitions};
-ghost use Rattle.form_rows.specs.Meant.{Is};
-ghost use Rattle.judgement_rows.specs.Steps.{Fits, FitsSome, state};
+ghost use Rattle.rows.specs.Views.{IsTree};
+ghost use Rattle.form_rows.specs.Meant.{AreTrees, Is};
+ghost use Rattle.judgement_rows.specs.Steps.{Closed, Fits, FitsSome, state};
 ghost use Rattle.judgement_rows.specs.Words.{Defines, block_scope, def_scope};
 
 use crate::bodies::{Bodies, Body};
@@ -41,6 +42,14 @@ impl Spelling {
             }
             None => Ok(maker.make(Op::U, &[])?),
         }
+    }
+
+    /// What came into scope after the mark goes out of it.
+    pub(crate) fn leave(&mut self, mark: usize)
+        ensures bodies { self.new.bodies.items.items ≡ take mark self.old.bodies.items.items }
+        ensures claims { self.new.claims.items ≡ self.old.claims.items }
+    {
+        self.bodies.cut(mark);
     }
 
     /// Definitions, which stay in scope.
@@ -78,12 +87,32 @@ impl Spelling {
         let under = self.under(maker, place, &def.binders)?;
         let ty = self.code(maker, under.place, &def.ty)?;
         let body = self.code(maker, under.place, &def.body)?;
-        let ty = nested(maker, Op::Pi, &under.types, ty)?;
-        let row = nested(maker, Op::Lam, &under.types, body)?;
+        self.define(maker, place, def.number, &under.types, ty, body)
+    }
+
+    /// Closes a type and a body over variables of these types, claims both, and keeps the body.
+    fn define<M: Maker>(
+        &mut self,
+        maker: &mut M,
+        place: Place,
+        number: u32,
+        types: &[u64],
+        ty: u64,
+        body: u64,
+    ) -> Result<(), AllocError>
+        requires types { AreTrees (M.means maker.old) types.now }
+        requires ty { IsTree (M.means maker.old ty) }
+        requires body { IsTree (M.means maker.old body) }
+        ensures kept { Kept (M.means maker.old) (M.means maker.new) }
+        ensures defines { OnOk result (Closed (state (M.means maker.old) self.old)
+            (state (M.means maker.new) self.new) place number types.now ty body) }
+    {
+        let ty = nested(maker, Op::Pi, types, ty)?;
+        let row = nested(maker, Op::Lam, types, body)?;
         self.claims.push(Claim::Ty(place.context, ty))?;
         self.claims.push(Claim::Tm(place.context, row, ty))?;
         self.bodies.push(Numbered {
-            number: def.number,
+            number,
             value: Body {
                 row,
                 depth: place.depth,

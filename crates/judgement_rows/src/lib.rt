@@ -20,6 +20,7 @@ mod kan;
 mod numbers;
 mod places;
 mod sides;
+mod systems;
 mod terms;
 
 pub use definitions::claims_of;

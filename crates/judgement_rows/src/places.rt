@@ -3,11 +3,13 @@
 ghost use Rattle.std.specs.Prelude.{◌≡◌, ◌+◌, IfOk, OnOk};
 ghost use Rattle.trees.specs.Things.{Kept};
 ghost use Rattle.rows.specs.Views.{IsContext, IsTree};
-ghost use Rattle.judgement_rows.specs.Places.{AllNamedIn, BoundIn, FacedIn, NamedIn, OpenedIn};
+ghost use Rattle.judgement_rows.specs.Places.{AllNamedIn, BoundIn, FacedIn, HoldIn, NamedIn};
+ghost use Rattle.judgement_rows.specs.Places.{OpenedIn};
 
-use form_rows::lifted;
+use codes::Equation;
+use form_rows::{face, lifted};
 use rows::Maker;
-use std::alloc::AllocError;
+use std::alloc::{AllocError, Global};
 
 /// A place of a code: the row of its context, and the number of variables and names in it. There
 /// are less than 2^32.
@@ -15,6 +17,13 @@ use std::alloc::AllocError;
 pub(crate) struct Place {
     pub(crate) context: u64,
     pub(crate) depth: u32,
+}
+
+/// A face, and the place where it holds.
+#[derive(Clone, Copy, Debug)]
+pub(crate) struct Faced {
+    pub(crate) face: u64,
+    pub(crate) place: Place,
 }
 
 /// A place under variables, and the rows of their types, the outermost first.
@@ -101,8 +110,25 @@ impl Place {
         Ok(place)
     }
 
+    /// The face of equations, and the place where they hold.
+    pub(crate) fn under_equations<M: Maker>(
+        self,
+        alloc: Global,
+        maker: &mut M,
+        equations: &[Equation],
+    ) -> Result<Faced, AllocError>
+        requires { IsContext (M.means maker.old self.context) }
+        ensures kept { Kept (M.means maker.old) (M.means maker.new) }
+        ensures hold { IfOk result
+            (HoldIn (M.means maker.old) (M.means maker.new) self equations.now) }
+    {
+        let face = face(alloc, maker, equations)?;
+        let place = self.under_face(maker, face)?;
+        Ok(Faced { face, place })
+    }
+
     /// The place where a face holds.
-    pub(crate) fn under_face<M: Maker>(self, maker: &mut M, face: u64) -> Result<Place, AllocError>
+    fn under_face<M: Maker>(self, maker: &mut M, face: u64) -> Result<Place, AllocError>
         requires context { IsContext (M.means maker.old self.context) }
         requires face { IsTree (M.means maker.old face) }
         ensures kept { Kept (M.means maker.old) (M.means maker.new) }

@@ -7,26 +7,11 @@ ghost use Rattle.judgement_rows.specs.Words.{IsLineSystem, IsPairSystem, IsSyste
 ghost use Rattle.judgement_rows.specs.Words.{line_side_trees, pair_side_trees, side_trees};
 
 use crate::places::Place;
+use crate::systems::{PairRows, PairSystem, SideRows, System};
 use crate::terms::Spelling;
 use codes::{LineSide, PairSide, Side};
-use form_rows::{all_lifted, cover, face, system};
 use rows::Maker;
 use std::alloc::AllocError;
-
-/// Where the sides stand, and what is each of them on its face.
-#[derive(Clone, Copy, Debug)]
-pub(crate) struct System {
-    pub(crate) cover: u64,
-    pub(crate) body: u64,
-}
-
-/// The same of sides that are pairs of a type and an equivalence.
-#[derive(Clone, Copy, Debug)]
-pub(crate) struct PairSystem {
-    pub(crate) cover: u64,
-    pub(crate) types: u64,
-    pub(crate) equivalences: u64,
-}
 
 impl Spelling {
     /// Sides that are terms.
@@ -42,18 +27,13 @@ impl Spelling {
         ensures spells { IfOk result (λ r. Spells (state (M.means maker.old) self.old)
             (state (M.means maker.new) self.new) place (IsSystem r) (side_trees sides.now)) }
     {
-        let mut faces = Vec::new(self.alloc);
-        let mut values = Vec::new(self.alloc);
+        let mut rows = SideRows::new(self.alloc);
         for side in sides {
-            let face = face(self.alloc, maker, &side.equations)?;
-            let inner = place.under_face(maker, face)?;
-            let value = self.code(maker, inner, &side.body)?;
-            faces.push(face)?;
-            values.push(value)?;
+            let faced = place.under_equations(self.alloc, maker, &side.equations)?;
+            let value = self.code(maker, faced.place, &side.body)?;
+            rows.push(faced.face, value)?;
         }
-        let body = system(maker, &faces, &values)?;
-        let cover = cover(maker, &faces)?;
-        Ok(System { cover, body })
+        rows.system(maker)
     }
 
     /// Sides that are lines, whose faces stand outside their name.
@@ -70,19 +50,13 @@ impl Spelling {
             (state (M.means maker.new) self.new) place (IsLineSystem r)
             (line_side_trees sides.now)) }
     {
-        let mut faces = Vec::new(self.alloc);
-        let mut values = Vec::new(self.alloc);
+        let mut rows = SideRows::new(self.alloc);
         for side in sides {
-            let face = face(self.alloc, maker, &side.equations)?;
-            let inner = place.under_face(maker, face)?;
-            let value = self.line(maker, inner, &side.body)?;
-            faces.push(face)?;
-            values.push(value)?;
+            let faced = place.under_equations(self.alloc, maker, &side.equations)?;
+            let value = self.line(maker, faced.place, &side.body)?;
+            rows.push(faced.face, value)?;
         }
-        let inside = all_lifted(self.alloc, maker, &faces)?;
-        let body = system(maker, &inside, &values)?;
-        let cover = cover(maker, &faces)?;
-        Ok(System { cover, body })
+        rows.line_system(self.alloc, maker)
     }
 
     /// Sides that are pairs.
@@ -99,25 +73,13 @@ impl Spelling {
             (state (M.means maker.new) self.new) place (IsPairSystem r)
             (pair_side_trees sides.now)) }
     {
-        let mut faces = Vec::new(self.alloc);
-        let mut types = Vec::new(self.alloc);
-        let mut equivalences = Vec::new(self.alloc);
+        let mut rows = PairRows::new(self.alloc);
         for side in sides {
-            let face = face(self.alloc, maker, &side.equations)?;
-            let inner = place.under_face(maker, face)?;
-            let ty = self.code(maker, inner, &side.ty)?;
-            let equivalence = self.code(maker, inner, &side.equivalence)?;
-            faces.push(face)?;
-            types.push(ty)?;
-            equivalences.push(equivalence)?;
+            let faced = place.under_equations(self.alloc, maker, &side.equations)?;
+            let ty = self.code(maker, faced.place, &side.ty)?;
+            let equivalence = self.code(maker, faced.place, &side.equivalence)?;
+            rows.push(faced.face, ty, equivalence)?;
         }
-        let types = system(maker, &faces, &types)?;
-        let equivalences = system(maker, &faces, &equivalences)?;
-        let cover = cover(maker, &faces)?;
-        Ok(PairSystem {
-            cover,
-            types,
-            equivalences,
-        })
+        rows.system(maker)
     }
 }

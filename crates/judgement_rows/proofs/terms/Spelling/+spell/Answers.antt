@@ -1,6 +1,6 @@
 use Rattle.std.proofs.Common.{refl, ap, arith, rules}
 use Rattle.trees.specs.declared.op.Op.TheVariants as op
-use Rattle.form_rows.proofs.RowLaws.{kept_then, are_none, tree_kept, tree_of_is, trees_kept, is_made, is_of, take_whole, two_fit}
+use Rattle.form_rows.proofs.RowLaws.{kept_then, are_none, tree_kept, tree_of_is, is_made, is_of, take_whole, two_fit}
 use Rattle.codes.specs.declared.code.Code as codes
 use Rattle.codes.specs.declared.code.CodeDef as defs
 use Rattle.codes.specs.declared.code.Opened as opens
@@ -10,7 +10,7 @@ use Rattle.codes.specs.declared.code.PairSide as pair_sides
 use Rattle.codes.specs.declared.code.Element as elements
 use Rattle.codes.specs.declared.code.Binder as binders
 use Rattle.judgement_rows.specs.Words.{applied_tree, code_trees, line_side_trees, pair_side_trees, side_trees, under_trees}
-use Rattle.judgement_rows.proofs.Answered.{body_answer, fits_after, made_answer, one_more, spells_by, var_answer}
+use Rattle.judgement_rows.proofs.Answered.{body_answer, fits_after, made_answer, on_ok, one_more, spells_by, var_answer}
 use Rattle.judgement_rows.proofs.Moving.{given, some_after, spells_then}
 use Rattle.judgement_rows.proofs.FormSteps.{place_context, some_face, some_name, some_variable, spells_in_name, spells_in_variable, spells_later, spells_map, spells_same, spelt_tree}
 use Rattle.judgement_rows.proofs.UnderSteps.{under_all_names}
@@ -19,8 +19,8 @@ use Rattle.judgement_rows.proofs.Arms.{more_rows, one_fits_here, one_made, three
 use Rattle.judgement_rows.proofs.CodeForms.{bound_is, defined_is, universe_is, nat_is, zero_is, let_is, suc_is, natrec_is, pi_is, sigma_is, lambda_is, path_lambda_is, apply_is, project_is, tuple_is, path_type_is, comp_is, fill_is, transport_is, glue_type_is, glue_term_is, unglue_is}
 use Rattle.judgement_rows.proofs.BindingSteps.{cut_to, over_made, some_defined, some_names, some_within, types_within, under_next, under_start}
 use Rattle.judgement_rows.proofs.AppliedSteps.{applied_line_is, applied_more, applied_motive_is, applied_none, argument_applied, argument_is, at_is, codes_next, codes_start, formula_applied, rows_given, under_line_is, under_motive_is}
-use Rattle.judgement_rows.proofs.SystemSteps.{as_many, as_many_equivalences, as_many_types, equivalence_trees, face_trees, lifted_as_many, lifted_trees, line_side_next, line_sides_start, line_system_made, pair_face_trees, pair_side_next, pair_sides_start, pair_system_made, side_next, sides_start, system_made, type_trees, value_trees}
-use Rattle.judgement_rows.proofs.BlockSteps.{block_next, block_start, block_whole, definition_made, two_more}
+use Rattle.judgement_rows.proofs.SystemSteps.{line_side_next, line_sides_start, line_system_made, pair_side_next, pair_sides_start, pair_system_made, pairs_known, side_next, sides_known, sides_start, system_made}
+use Rattle.judgement_rows.proofs.BlockSteps.{block_next, block_start, block_whole, definition_made}
 use Rattle.judgement_rows.proofs.terms.Spelling.+spell.Goals as goal
 
 -- codes by their forms
@@ -56,7 +56,7 @@ let_in-code-requires g t c = λ κs l. (search (rules, codes.the_lemmas), (l, so
 pub let_in-returns-clause-spells : goal.let_in-returns-clause-spells
 let_in-returns-clause-spells g t c =
     spells_by (let_is c.in-Let.span c.in-Let.locals c.in-Let.body c.in-Let.is c.deref.ensures.value c.deref-2.ensures)
-    (after_block _ _ c.in_ok-block.ensures.defines c.in_ok-row.ensures.spells refl refl (cut_to _ c.mark-mark.ensures c.cut.ensures))
+    (after_block _ _ c.in_ok-block.ensures.defines c.in_ok-row.ensures.spells refl c.leave.ensures.claims (cut_to _ c.mark-mark.ensures c.leave.ensures.bodies))
 
 pub pi-under-requires : goal.pi-under-requires
 pi-under-requires g t c = λ κs l. (search (rules, codes.the_lemmas), (l, c.requires.fits))
@@ -433,135 +433,77 @@ unglue-returns-clause-spells g t c =
 -- sides
 
 pub sides-loop-side-init : goal.sides-loop-side-init
-sides-loop-side-init g t c = sides_start _ _ c.new-faces.ensures.items c.new-values.ensures.items
+sides-loop-side-init g t c = sides_start _ _ c.new-rows.ensures.faces c.new-rows.ensures.values
 
-pub sides-under_face-requires-clause-context : goal.sides-under_face-requires-clause-context
-sides-under_face-requires-clause-context g t c = place_context (fits_after c.face.ensures.kept (some_after c.requires c.loop-side.invariant))
-
-pub sides-under_face-requires-clause-face : goal.sides-under_face-requires-clause-face
-sides-under_face-requires-clause-face g t c = tree_of_is _ _ c.in_ok-face.ensures.tree
+pub sides-under_equations-requires : goal.sides-under_equations-requires
+sides-under_equations-requires g t c = place_context (some_after c.requires c.loop-side.invariant)
 
 pub sides-code-requires : goal.sides-code-requires
 sides-code-requires g t c =
-    λ κs l. (search (rules, codes.the_lemmas, opens.the_lemmas, sides.the_lemmas, line_sides.the_lemmas, pair_sides.the_lemmas, elements.the_lemmas, binders.the_lemmas), (l, some_face (more_rows c.under_face.ensures.kept) c.in_ok-inner.ensures.faced (tree_of_is _ _ c.in_ok-face.ensures.tree) (fits_after c.face.ensures.kept (some_after c.requires c.loop-side.invariant))))
+    λ κs l. (search (rules, codes.the_lemmas, opens.the_lemmas, sides.the_lemmas, line_sides.the_lemmas, pair_sides.the_lemmas, elements.the_lemmas, binders.the_lemmas), (l, some_face (more_rows c.under_equations.ensures.kept) c.in_ok-faced.ensures.hold (some_after c.requires c.loop-side.invariant)))
 
 pub sides-loop-side-preserved : goal.sides-loop-side-preserved
 sides-loop-side-preserved g t c =
-    side_next (more_rows c.face.ensures.kept) (more_rows c.under_face.ensures.kept) c.in_ok-inner.ensures.faced c.in_ok-push.ensures.items c.in_ok-push-2.ensures.items _ _ c.side-item.result (one_more c.args.sides.now c.loop-side.side-index c.side-item.result (omega arith) c.side-item.is)
-    (rw c.deref.ensures.value at c.in_ok-face.ensures.tree) c.loop-side.invariant c.in_ok-value.ensures.spells
+    side_next (more_rows c.under_equations.ensures.kept) _ _ c.side-item.result (one_more c.args.sides.now c.loop-side.side-index c.side-item.result (omega arith) c.side-item.is)
+    (rw c.deref.ensures.value at c.in_ok-faced.ensures.hold)
+    c.in_ok-push.ensures.faces c.in_ok-push.ensures.values c.loop-side.invariant c.in_ok-value.ensures.spells
 
-pub line_sides-loop-side-init : goal.line_sides-loop-side-init
-line_sides-loop-side-init g t c = line_sides_start _ _ c.new-faces.ensures.items c.new-values.ensures.items
-
-pub line_sides-under_face-requires-clause-context : goal.line_sides-under_face-requires-clause-context
-line_sides-under_face-requires-clause-context g t c = place_context (fits_after c.face.ensures.kept (some_after c.requires c.loop-side.invariant))
-
-pub line_sides-under_face-requires-clause-face : goal.line_sides-under_face-requires-clause-face
-line_sides-under_face-requires-clause-face g t c = tree_of_is _ _ c.in_ok-face.ensures.tree
-
-pub line_sides-line-requires : goal.line_sides-line-requires
-line_sides-line-requires g t c =
-    λ κs l. (search (rules, codes.the_lemmas, opens.the_lemmas, sides.the_lemmas, line_sides.the_lemmas, pair_sides.the_lemmas, elements.the_lemmas, binders.the_lemmas), (l, some_face (more_rows c.under_face.ensures.kept) c.in_ok-inner.ensures.faced (tree_of_is _ _ c.in_ok-face.ensures.tree) (fits_after c.face.ensures.kept (some_after c.requires c.loop-side.invariant))))
-
-pub line_sides-loop-side-preserved : goal.line_sides-loop-side-preserved
-line_sides-loop-side-preserved g t c =
-    line_side_next (more_rows c.face.ensures.kept) (more_rows c.under_face.ensures.kept) c.in_ok-inner.ensures.faced c.in_ok-push.ensures.items c.in_ok-push-2.ensures.items _ _ c.side-item.result (one_more c.args.sides.now c.loop-side.side-index c.side-item.result (omega arith) c.side-item.is)
-    (rw c.deref.ensures.value at c.in_ok-face.ensures.tree) c.loop-side.invariant c.in_ok-value.ensures.spells
-
-pub sides-system-requires-clause-as_many : goal.sides-system-requires-clause-as_many
-sides-system-requires-clause-as_many g t c = rw (c.deref-2.ensures.value, c.deref-3.ensures.value) (as_many c.requires c.loop-side.invariant)
-
-pub sides-system-requires-clause-faces : goal.sides-system-requires-clause-faces
-sides-system-requires-clause-faces g t c = rw c.deref-2.ensures.value (face_trees c.requires c.loop-side.invariant)
-
-pub sides-system-requires-clause-values : goal.sides-system-requires-clause-values
-sides-system-requires-clause-values g t c = rw c.deref-3.ensures.value (value_trees c.requires c.loop-side.invariant)
-
-pub sides-cover-requires : goal.sides-cover-requires
-sides-cover-requires g t c =
-    rw c.deref-4.ensures.value (trees_kept _ _ _ c.system.ensures.kept (face_trees c.requires c.loop-side.invariant))
+pub sides-system-requires : goal.sides-system-requires
+sides-system-requires g t c = sides_known c.loop-side.rows c.loop-side.invariant c.requires
 
 pub sides-returns-clause-spells : goal.sides-returns-clause-spells
 sides-returns-clause-spells g t c =
-    spells_by (ap side_trees (take_whole c.args.sides.now c.loop-side.side-index (omega arith)))
-    (system_made c.loop-side.invariant c.system.ensures.kept (rw (c.deref-2.ensures.value, c.deref-3.ensures.value) at c.in_ok-body.ensures.body) c.cover.ensures.kept (rw c.deref-4.ensures.value at c.in_ok-cover.ensures.covers))
+    system_made c.loop-side.rows c.loop-side.invariant c.system.result (ap side_trees (take_whole c.args.sides.now c.loop-side.side-index (omega arith))) c.system.ensures.kept c.system.ensures.system
 
-pub line_sides-all_lifted-requires : goal.line_sides-all_lifted-requires
-line_sides-all_lifted-requires g t c = rw c.deref-2.ensures.value (face_trees c.requires c.loop-side.invariant)
+pub line_sides-loop-side-init : goal.line_sides-loop-side-init
+line_sides-loop-side-init g t c = line_sides_start _ _ c.new-rows.ensures.faces c.new-rows.ensures.values
 
-pub line_sides-system-requires-clause-as_many : goal.line_sides-system-requires-clause-as_many
-line_sides-system-requires-clause-as_many g t c =
-    rw (c.deref-3.ensures.value, c.deref-4.ensures.value) (lifted_as_many c.requires c.loop-side.invariant (rw c.deref-2.ensures.value at c.in_ok-inside.ensures.lifted))
+pub line_sides-under_equations-requires : goal.line_sides-under_equations-requires
+line_sides-under_equations-requires g t c = place_context (some_after c.requires c.loop-side.invariant)
 
-pub line_sides-system-requires-clause-faces : goal.line_sides-system-requires-clause-faces
-line_sides-system-requires-clause-faces g t c =
-    rw c.deref-3.ensures.value (lifted_trees c.requires c.loop-side.invariant (rw c.deref-2.ensures.value at c.in_ok-inside.ensures.lifted))
+pub line_sides-line-requires : goal.line_sides-line-requires
+line_sides-line-requires g t c =
+    λ κs l. (search (rules, codes.the_lemmas, opens.the_lemmas, sides.the_lemmas, line_sides.the_lemmas, pair_sides.the_lemmas, elements.the_lemmas, binders.the_lemmas), (l, some_face (more_rows c.under_equations.ensures.kept) c.in_ok-faced.ensures.hold (some_after c.requires c.loop-side.invariant)))
 
-pub line_sides-system-requires-clause-values : goal.line_sides-system-requires-clause-values
-line_sides-system-requires-clause-values g t c =
-    rw c.deref-4.ensures.value (trees_kept _ _ _ c.all_lifted.ensures.kept (value_trees c.requires c.loop-side.invariant))
+pub line_sides-loop-side-preserved : goal.line_sides-loop-side-preserved
+line_sides-loop-side-preserved g t c =
+    line_side_next (more_rows c.under_equations.ensures.kept) _ _ c.side-item.result (one_more c.args.sides.now c.loop-side.side-index c.side-item.result (omega arith) c.side-item.is)
+    (rw c.deref.ensures.value at c.in_ok-faced.ensures.hold)
+    c.in_ok-push.ensures.faces c.in_ok-push.ensures.values c.loop-side.invariant c.in_ok-value.ensures.spells
 
-pub line_sides-cover-requires : goal.line_sides-cover-requires
-line_sides-cover-requires g t c =
-    rw c.deref-5.ensures.value (trees_kept _ _ _ (kept_then c.all_lifted.ensures.kept c.system.ensures.kept) (face_trees c.requires c.loop-side.invariant))
+pub line_sides-line_system-requires : goal.line_sides-line_system-requires
+line_sides-line_system-requires g t c = sides_known c.loop-side.rows c.loop-side.invariant c.requires
 
 pub line_sides-returns-clause-spells : goal.line_sides-returns-clause-spells
 line_sides-returns-clause-spells g t c =
-    spells_by (ap line_side_trees (take_whole c.args.sides.now c.loop-side.side-index (omega arith)))
-    (line_system_made c.loop-side.invariant c.all_lifted.ensures.kept (rw c.deref-2.ensures.value at c.in_ok-inside.ensures.lifted) c.system.ensures.kept (rw (c.deref-3.ensures.value, c.deref-4.ensures.value) at c.in_ok-body.ensures.body)
-    c.cover.ensures.kept (rw c.deref-5.ensures.value at c.in_ok-cover.ensures.covers))
+    line_system_made c.loop-side.rows c.loop-side.invariant c.line_system.result (ap line_side_trees (take_whole c.args.sides.now c.loop-side.side-index (omega arith))) c.line_system.ensures.kept c.line_system.ensures.system
 
 pub pair_sides-loop-side-init : goal.pair_sides-loop-side-init
-pair_sides-loop-side-init g t c = pair_sides_start _ _ c.new-faces.ensures.items c.new-types.ensures.items c.new-equivalences.ensures.items
+pair_sides-loop-side-init g t c = pair_sides_start _ _ c.new-rows.ensures.faces c.new-rows.ensures.types c.new-rows.ensures.equivalences
 
-pub pair_sides-under_face-requires-clause-context : goal.pair_sides-under_face-requires-clause-context
-pair_sides-under_face-requires-clause-context g t c = place_context (fits_after c.face.ensures.kept (some_after c.requires c.loop-side.invariant))
-
-pub pair_sides-under_face-requires-clause-face : goal.pair_sides-under_face-requires-clause-face
-pair_sides-under_face-requires-clause-face g t c = tree_of_is _ _ c.in_ok-face.ensures.tree
+pub pair_sides-under_equations-requires : goal.pair_sides-under_equations-requires
+pair_sides-under_equations-requires g t c = place_context (some_after c.requires c.loop-side.invariant)
 
 pub pair_sides-code-requires : goal.pair_sides-code-requires
 pair_sides-code-requires g t c =
-    λ κs l. (search (rules, codes.the_lemmas, opens.the_lemmas, sides.the_lemmas, line_sides.the_lemmas, pair_sides.the_lemmas, elements.the_lemmas, binders.the_lemmas), (l, some_face (more_rows c.under_face.ensures.kept) c.in_ok-inner.ensures.faced (tree_of_is _ _ c.in_ok-face.ensures.tree) (fits_after c.face.ensures.kept (some_after c.requires c.loop-side.invariant))))
+    λ κs l. (search (rules, codes.the_lemmas, opens.the_lemmas, sides.the_lemmas, line_sides.the_lemmas, pair_sides.the_lemmas, elements.the_lemmas, binders.the_lemmas), (l, some_face (more_rows c.under_equations.ensures.kept) c.in_ok-faced.ensures.hold (some_after c.requires c.loop-side.invariant)))
 
 pub pair_sides-code-requires-in-loop-side : goal.pair_sides-code-requires-in-loop-side
 pair_sides-code-requires-in-loop-side g t c =
-    λ κs l. (search (rules, codes.the_lemmas, opens.the_lemmas, sides.the_lemmas, line_sides.the_lemmas, pair_sides.the_lemmas, elements.the_lemmas, binders.the_lemmas), (l, some_after (some_face (more_rows c.under_face.ensures.kept) c.in_ok-inner.ensures.faced (tree_of_is _ _ c.in_ok-face.ensures.tree) (fits_after c.face.ensures.kept (some_after c.requires c.loop-side.invariant))) c.in_ok-ty.ensures.spells))
+    λ κs l. (search (rules, codes.the_lemmas, opens.the_lemmas, sides.the_lemmas, line_sides.the_lemmas, pair_sides.the_lemmas, elements.the_lemmas, binders.the_lemmas), (l, some_after (some_face (more_rows c.under_equations.ensures.kept) c.in_ok-faced.ensures.hold (some_after c.requires c.loop-side.invariant)) c.in_ok-ty.ensures.spells))
 
 pub pair_sides-loop-side-preserved : goal.pair_sides-loop-side-preserved
 pair_sides-loop-side-preserved g t c =
-    pair_side_next (more_rows c.face.ensures.kept) (more_rows c.under_face.ensures.kept) c.in_ok-inner.ensures.faced c.in_ok-push.ensures.items c.in_ok-push-2.ensures.items c.in_ok-push-3.ensures.items _ _ c.side-item.result (one_more c.args.sides.now c.loop-side.side-index c.side-item.result (omega arith) c.side-item.is)
-    (rw c.deref.ensures.value at c.in_ok-face.ensures.tree) c.loop-side.invariant c.in_ok-ty.ensures.spells c.in_ok-equivalence.ensures.spells
+    pair_side_next (more_rows c.under_equations.ensures.kept) _ _ c.side-item.result (one_more c.args.sides.now c.loop-side.side-index c.side-item.result (omega arith) c.side-item.is)
+    (rw c.deref.ensures.value at c.in_ok-faced.ensures.hold)
+    c.in_ok-push.ensures.faces c.in_ok-push.ensures.types c.in_ok-push.ensures.equivalences c.loop-side.invariant c.in_ok-ty.ensures.spells c.in_ok-equivalence.ensures.spells
 
-pub pair_sides-system-requires-clause-as_many : goal.pair_sides-system-requires-clause-as_many
-pair_sides-system-requires-clause-as_many g t c = rw (c.deref-2.ensures.value, c.deref-3.ensures.value) (as_many_types c.requires c.loop-side.invariant)
-
-pub pair_sides-system-requires-clause-faces : goal.pair_sides-system-requires-clause-faces
-pair_sides-system-requires-clause-faces g t c = rw c.deref-2.ensures.value (pair_face_trees c.requires c.loop-side.invariant)
-
-pub pair_sides-system-requires-clause-values : goal.pair_sides-system-requires-clause-values
-pair_sides-system-requires-clause-values g t c = rw c.deref-3.ensures.value (type_trees c.requires c.loop-side.invariant)
-
-pub pair_sides-system-requires-2-clause-as_many : goal.pair_sides-system-requires-2-clause-as_many
-pair_sides-system-requires-2-clause-as_many g t c = rw (c.deref-4.ensures.value, c.deref-5.ensures.value) (as_many_equivalences c.requires c.loop-side.invariant)
-
-pub pair_sides-system-requires-2-clause-faces : goal.pair_sides-system-requires-2-clause-faces
-pair_sides-system-requires-2-clause-faces g t c =
-    rw c.deref-4.ensures.value (trees_kept _ _ _ c.system.ensures.kept (pair_face_trees c.requires c.loop-side.invariant))
-
-pub pair_sides-system-requires-2-clause-values : goal.pair_sides-system-requires-2-clause-values
-pair_sides-system-requires-2-clause-values g t c =
-    rw c.deref-5.ensures.value (trees_kept _ _ _ c.system.ensures.kept (equivalence_trees c.requires c.loop-side.invariant))
-
-pub pair_sides-cover-requires : goal.pair_sides-cover-requires
-pair_sides-cover-requires g t c =
-    rw c.deref-6.ensures.value (trees_kept _ _ _ (kept_then c.system.ensures.kept c.system-2.ensures.kept) (pair_face_trees c.requires c.loop-side.invariant))
+pub pair_sides-system-requires : goal.pair_sides-system-requires
+pair_sides-system-requires g t c = pairs_known c.loop-side.rows c.loop-side.invariant c.requires
 
 pub pair_sides-returns-clause-spells : goal.pair_sides-returns-clause-spells
 pair_sides-returns-clause-spells g t c =
-    spells_by (ap pair_side_trees (take_whole c.args.sides.now c.loop-side.side-index (omega arith)))
-    (pair_system_made c.loop-side.invariant c.system.ensures.kept (rw (c.deref-2.ensures.value, c.deref-3.ensures.value) at c.in_ok-types.ensures.body) c.system-2.ensures.kept (rw (c.deref-4.ensures.value, c.deref-5.ensures.value) at c.in_ok-equivalences.ensures.body)
-    c.cover.ensures.kept (rw c.deref-6.ensures.value at c.in_ok-cover.ensures.covers))
+    pair_system_made c.loop-side.rows c.loop-side.invariant c.system.result (ap pair_side_trees (take_whole c.args.sides.now c.loop-side.side-index (omega arith))) c.system.ensures.kept c.system.ensures.system
 
 -- definitions
 
@@ -586,24 +528,19 @@ pub definition-code-requires-2 : goal.definition-code-requires-2
 definition-code-requires-2 g t c =
     λ κs l. (search (rules, codes.the_lemmas, defs.the_lemmas), (l, some_after (some_within c.requires c.in_ok-under.ensures.spells) c.in_ok-ty.ensures.spells))
 
-pub definition-nested-requires-clause-rows : goal.definition-nested-requires-clause-rows
-definition-nested-requires-clause-rows g t c =
+pub definition-define-requires-clause-types : goal.definition-define-requires-clause-types
+definition-define-requires-clause-types g t c =
     rw c.deref-2.ensures.value (types_within c.requires c.in_ok-under.ensures.spells (kept_then c.code.ensures.kept c.code-2.ensures.kept))
 
-pub definition-nested-requires-clause-last : goal.definition-nested-requires-clause-last
-definition-nested-requires-clause-last g t c =
+pub definition-define-requires-clause-ty : goal.definition-define-requires-clause-ty
+definition-define-requires-clause-ty g t c =
     tree_kept _ _ _ c.code-2.ensures.kept (spelt_tree (some_within c.requires c.in_ok-under.ensures.spells) c.in_ok-ty.ensures.spells)
 
-pub definition-nested-requires-2-clause-rows : goal.definition-nested-requires-2-clause-rows
-definition-nested-requires-2-clause-rows g t c =
-    rw c.deref-3.ensures.value (types_within c.requires c.in_ok-under.ensures.spells (kept_then c.code.ensures.kept (kept_then c.code-2.ensures.kept c.nested.ensures.kept)))
-
-pub definition-nested-requires-2-clause-last : goal.definition-nested-requires-2-clause-last
-definition-nested-requires-2-clause-last g t c =
-    tree_kept _ _ _ c.nested.ensures.kept (spelt_tree (some_after (some_within c.requires c.in_ok-under.ensures.spells) c.in_ok-ty.ensures.spells) c.in_ok-body.ensures.spells)
+pub definition-define-requires-clause-body : goal.definition-define-requires-clause-body
+definition-define-requires-clause-body g t c =
+    spelt_tree (some_after (some_within c.requires c.in_ok-under.ensures.spells) c.in_ok-ty.ensures.spells) c.in_ok-body.ensures.spells
 
 pub definition-returns-clause-defines : goal.definition-returns-clause-defines
 definition-returns-clause-defines g t c =
-    definition_made c.args.def.now (rw c.deref.ensures.value at c.in_ok-under.ensures.spells) c.in_ok-ty.ensures.spells c.in_ok-body.ensures.spells
-    c.nested.ensures.kept (rw c.deref-2.ensures.value at c.in_ok-ty-2.ensures.nested) c.nested-2.ensures.kept (rw c.deref-3.ensures.value at c.in_ok-row.ensures.nested)
-    (two_more _ _ _ c.in_ok-push.ensures.items c.in_ok-push-2.ensures.items) c.in_ok-push-3.ensures
+    on_ok c.define.result (definition_made c.args.def.now (rw c.deref.ensures.value at c.in_ok-under.ensures.spells) c.in_ok-ty.ensures.spells c.in_ok-body.ensures.spells c.define.ensures.kept)
+    (rw c.deref-2.ensures.value at c.define.ensures.defines)

@@ -21,15 +21,15 @@ invariant-codes-loop-code g l =
 
 abbrev pub invariant-sides-loop-side : goal.invariant-sides-loop-side
 invariant-sides-loop-side g l =
-    Spells (state (g.M.Rows.means l.fn.maker) l.fn.self) (state (g.M.Rows.means l.maker) l.self) l.fn.place (IsSides l.faces.items (Rows l.values.items)) (side_trees (take l.side-index l.sides))
+    Spells (state (g.M.Rows.means l.fn.maker) l.fn.self) (state (g.M.Rows.means l.maker) l.self) l.fn.place (IsSides l.rows.faces.items (Rows l.rows.values.items)) (side_trees (take l.side-index l.sides))
 
 abbrev pub invariant-line_sides-loop-side : goal.invariant-line_sides-loop-side
 invariant-line_sides-loop-side g l =
-    Spells (state (g.M.Rows.means l.fn.maker) l.fn.self) (state (g.M.Rows.means l.maker) l.self) l.fn.place (IsSides l.faces.items (Rows l.values.items)) (line_side_trees (take l.side-index l.sides))
+    Spells (state (g.M.Rows.means l.fn.maker) l.fn.self) (state (g.M.Rows.means l.maker) l.self) l.fn.place (IsSides l.rows.faces.items (Rows l.rows.values.items)) (line_side_trees (take l.side-index l.sides))
 
 abbrev pub invariant-pair_sides-loop-side : goal.invariant-pair_sides-loop-side
 invariant-pair_sides-loop-side g l =
-    Spells (state (g.M.Rows.means l.fn.maker) l.fn.self) (state (g.M.Rows.means l.maker) l.self) l.fn.place (IsSides l.faces.items (Pairs l.types.items l.equivalences.items)) (pair_side_trees (take l.side-index l.sides))
+    Spells (state (g.M.Rows.means l.fn.maker) l.fn.self) (state (g.M.Rows.means l.maker) l.self) l.fn.place (IsSides l.rows.faces.items (Pairs l.rows.types.items l.rows.equivalences.items)) (pair_side_trees (take l.side-index l.sides))
 
 abbrev pub invariant-block-loop-def : goal.invariant-block-loop-def
 invariant-block-loop-def g l =
