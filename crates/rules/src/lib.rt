@@ -23,6 +23,3 @@ mod table;
 
 pub use as_rows::{concluded, side, wanted};
 pub use conditions::SideTest;
-
-#[cfg(test)]
-mod tests;
