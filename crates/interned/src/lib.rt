@@ -22,6 +22,3 @@ mod words;
 
 pub use interned_rows::InternedRows;
 pub use words::Words;
-
-#[cfg(test)]
-mod tests;

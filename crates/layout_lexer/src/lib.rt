@@ -26,6 +26,3 @@ pub use lexer::{MAX_LEN, tokens};
 pub use text::Text;
 pub use token::{Kind, Span, Spans, Token, Tokens};
 pub use words::spelling;
-
-#[cfg(test)]
-mod tests;

@@ -26,6 +26,3 @@ pub use held::HeldSize;
 pub use store::RowStore;
 pub use traits::{Maker, Reader, Rows};
 pub use views::{CtxId, CtxRow, Row, SubId, SubRow, SubSize, TermId, TermRow};
-
-#[cfg(test)]
-mod tests;

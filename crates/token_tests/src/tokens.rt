@@ -1,7 +1,7 @@
 //! Texts with all their tokens. A token is written as its spelling (`name` for an identifier),
 //! where it starts and ends, and its column.
 
-use crate::{Kind, LexFault, Span, Spans, Text, Token, Tokens, spelling, tokens};
+use layout_lexer::{Kind, LexFault, Span, Spans, Text, Token, Tokens, spelling, tokens};
 use std::alloc::{AllocError, Global};
 use std::process::Abort;
 use std::test::Fail;

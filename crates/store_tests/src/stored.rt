@@ -1,6 +1,6 @@
 //! Rows in memory, as they are made, read, measured and cut back.
 
-use crate::{CtxId, CtxRow, Reader, Row, RowStore, SubId, SubRow, SubSize, TermId, TermRow};
+use rows::{CtxId, CtxRow, Reader, Row, RowStore, SubId, SubRow, SubSize, TermId, TermRow};
 use std::alloc::Global;
 use std::process::Abort;
 use std::test::Fail;

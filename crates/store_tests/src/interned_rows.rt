@@ -1,6 +1,6 @@
 //! Interned rows as they are made, read, measured and released.
 
-use crate::InternedRows;
+use interned::InternedRows;
 use rows::{CtxId, CtxRow, Maker, Reader, SubId, SubRow, SubSize, TermId, TermRow};
 use std::test::Fail;
 use trees::Op;
