@@ -22,13 +22,39 @@ const fn face(ctx: u64, face: u64) -> Row<'static> {
     Row::Context(CtxRow::Face(CtxId(ctx), TermId(face)))
 }
 
+/// Adds a row that fits.
+fn add(rt: &impl Abort, rows: &mut RowStore, row: Row<'_>) -> Result<u64, Fail> {
+    assert!(rt; rows.fits(&row));
+    Ok(rows.add(row)?)
+}
+
 fn filled(rt: &impl Abort, alloc: Global, table: &[Row<'_>]) -> Result<RowStore, Fail> {
     let mut rows = RowStore::new(alloc);
     for row in table {
-        assert!(rt; rows.fits(row));
-        rows.add(*row)?;
+        add(rt, &mut rows, *row)?;
     }
     Ok(rows)
+}
+
+/// Asserts how the rows of the next test are read.
+fn assert_read(rt: &impl Abort, rows: &RowStore) {
+    assert!(rt; rows.is_term(TermId(1)) && rows.is_subst(SubId(3)) && rows.is_context(CtxId(5)));
+    assert!(rt; matches!(rows.term(TermId(1)), TermRow::Make(Op::Lam, &[0, 0])));
+    assert!(rt; matches!(rows.subst(SubId(3)), SubRow::Push(SubId(2), TermId(1))));
+    assert!(rt; matches!(rows.context(CtxId(5)), CtxRow::Face(CtxId(4), TermId(0))));
+    assert_eq!(rt; rows.len(), 6);
+    assert_eq!(rt; rows.kind(3), PartKind::Subst);
+}
+
+/// Leaves the first row alone, and asserts that another stands in the place of one that is gone.
+fn assert_cut_back(rt: &impl Abort, rows: &mut RowStore) -> Result<(), Fail> {
+    rows.truncate(1);
+    assert!(rt; rows.len() == 1 && !rows.is_of_kind(1, PartKind::Term));
+    let other = add(rt, rows, Row::Term(TermRow::Make(Op::Suc, &[0])))?;
+    assert_eq!(rt; other, 1);
+    assert!(rt; rows.is_term(TermId(1)));
+    assert!(rt; matches!(rows.term(TermId(1)), TermRow::Make(Op::Suc, &[0])));
+    Ok(())
 }
 
 #[test]
@@ -42,35 +68,26 @@ fn rows_are_read_as_they_were_made(rt: HostRuntime) -> Result<(), Fail> {
         face(4, 0),
     ];
     let mut rows = filled(&rt, rt.alloc(), &table)?;
-    assert!(rt; rows.is_term(TermId(1)) && rows.is_subst(SubId(3)) && rows.is_context(CtxId(5)));
-    assert!(rt; matches!(rows.term(TermId(1)), TermRow::Make(Op::Lam, &[0, 0])));
-    assert!(rt; matches!(rows.subst(SubId(3)), SubRow::Push(SubId(2), TermId(1))));
-    assert!(rt; matches!(rows.context(CtxId(5)), CtxRow::Face(CtxId(4), TermId(0))));
-    assert_eq!(rt; rows.len(), 6);
-    assert_eq!(rt; rows.kind(3), PartKind::Subst);
-    // the first rows alone, and others in the place of those that are gone
-    rows.truncate(1);
-    assert!(rt; rows.len() == 1 && !rows.is_of_kind(1, PartKind::Term));
-    let other = Row::Term(TermRow::Make(Op::Suc, &[0]));
-    assert!(rt; rows.fits(&other));
-    assert_eq!(rt; rows.add(other)?, 1);
-    assert!(rt; rows.is_term(TermId(1)));
-    assert!(rt; matches!(rows.term(TermId(1)), TermRow::Make(Op::Suc, &[0])));
-    Ok(())
+    assert_read(&rt, &rows);
+    assert_cut_back(&rt, &mut rows)
+}
+
+/// Asserts which rows fit.
+fn assert_fits(rt: &impl Abort, rows: &RowStore, cases: &[(Row<'_>, bool)]) {
+    for (row, fits) in cases {
+        assert_eq!(rt; rows.fits(row), *fits, "at {row:?}");
+    }
 }
 
 #[test]
 fn rows_fit_that_name_rows_of_the_right_kinds(rt: HostRuntime) -> Result<(), Fail> {
-    let rows = filled(
-        &rt,
-        rt.alloc(),
-        &[
-            Row::Term(TermRow::Var(0)),
-            shift(1 << 62),
-            Row::Context(CtxRow::Nil),
-        ],
-    )?;
-    for (row, fits) in [
+    let table = [
+        Row::Term(TermRow::Var(0)),
+        shift(1 << 62),
+        Row::Context(CtxRow::Nil),
+    ];
+    let rows = filled(&rt, rt.alloc(), &table)?;
+    let cases = [
         (Row::Term(TermRow::Make(Op::Pair, &[0, 0])), true),
         (Row::Term(TermRow::Make(Op::Pair, &[0])), false),
         (Row::Term(TermRow::Make(Op::Pair, &[0, 1])), false),
@@ -83,8 +100,29 @@ fn rows_fit_that_name_rows_of_the_right_kinds(rt: HostRuntime) -> Result<(), Fai
         (Row::Context(CtxRow::Name(CtxId(0))), false),
         (Row::Context(CtxRow::Var(CtxId(2), TermId(0))), true),
         (face(2, 1), false),
-    ] {
-        assert_eq!(rt; rows.fits(&row), fits, "at {row:?}");
+    ];
+    assert_fits(&rt, &rows, &cases);
+    Ok(())
+}
+
+/// Asserts that a substitution pushes so many trees and shifts by so much.
+fn assert_size(rt: &impl Abort, rows: &RowStore, sub: u64, pushed: Option<u64>, shift: u64) {
+    assert!(rt; rows.is_subst(SubId(sub)));
+    assert_eq!(rt;
+        rows.size(SubId(sub)),
+        SubSize { pushed, shift },
+        "at {sub}"
+    );
+}
+
+/// Adds one tree on no shift, and 200 substitutions each of which is twice the one before; asserts
+/// their sizes.
+fn assert_doublings(rt: &impl Abort, rows: &mut RowStore) -> Result<(), Fail> {
+    let none = add(rt, rows, shift(0))?;
+    let mut last = add(rt, rows, push(none, 0))?;
+    for doublings in 1..=200u32 {
+        last = add(rt, rows, then(last, last))?;
+        assert_size(rt, rows, last, 1u64.checked_shl(doublings), 0);
     }
     Ok(())
 }
@@ -111,31 +149,7 @@ fn substitutions_know_their_sizes(rt: HostRuntime) -> Result<(), Fail> {
         (5, 2, 6),
         (6, 2, 4),
     ] {
-        assert!(rt; rows.is_subst(SubId(sub)));
-        let pushed = Some(pushed);
-        assert_eq!(rt;
-            rows.size(SubId(sub)),
-            SubSize { pushed, shift },
-            "at {sub}"
-        );
+        assert_size(&rt, &rows, sub, Some(pushed), shift);
     }
-    // each twice the one before: one tree on no shift, 64 and 200 times doubled
-    let mut last = 8;
-    for row in [shift(0), push(7, 0)] {
-        assert!(rt; rows.fits(&row));
-        last = rows.add(row)?;
-    }
-    for doublings in 1..=200u32 {
-        let row = then(last, last);
-        assert!(rt; rows.fits(&row));
-        last = rows.add(row)?;
-        assert!(rt; rows.is_subst(SubId(last)));
-        let pushed = 1u64.checked_shl(doublings);
-        assert_eq!(rt;
-            rows.size(SubId(last)),
-            SubSize { pushed, shift: 0 },
-            "at {doublings}"
-        );
-    }
-    Ok(())
+    assert_doublings(&rt, &mut rows)
 }
