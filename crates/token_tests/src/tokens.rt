@@ -317,6 +317,15 @@ fn blocks_have_marks(rt: HostRuntime) -> Result<(), Fail> {
     all_are(&rt, rt.alloc(), BLOCKS)
 }
 
+fn assert_no_text(rt: &impl Abort, alloc: Global, bytes: &[u8], at: u32) {
+    let fault = tokens(alloc, bytes).err();
+    assert_eq!(rt; fault, Some(LexFault::NotUtf8(at)), "of {bytes:?}");
+}
+
+fn assert_too_long(rt: &impl Abort, alloc: Global, bytes: &[u8]) {
+    assert_eq!(rt; tokens(alloc, bytes).err(), Some(LexFault::TooLong));
+}
+
 #[test]
 fn bytes_that_are_no_text_are_refused(rt: HostRuntime) -> Result<(), Fail> {
     let rows: [(&[u8], u32); 7] = [
@@ -329,29 +338,38 @@ fn bytes_that_are_no_text_are_refused(rt: HostRuntime) -> Result<(), Fail> {
         (b"\xf4\x90\x80\x80", 0),
     ];
     for (bytes, at) in rows {
-        let fault = tokens(rt.alloc(), bytes).err();
-        assert_eq!(rt; fault, Some(LexFault::NotUtf8(at)), "of {bytes:?}");
+        assert_no_text(&rt, rt.alloc(), bytes, at);
     }
     let long = vec![in rt.alloc(); 0xff_u8; 16_777_217]?;
-    assert_eq!(rt; tokens(rt.alloc(), &long).err(), Some(LexFault::TooLong));
+    assert_too_long(&rt, rt.alloc(), &long);
+    Ok(())
+}
+
+fn assert_spans_hold(rt: &impl Abort, alloc: Global, span: Span) -> Result<(), Fail> {
+    let mut spans = Spans::new(alloc);
+    spans.push(span)?;
+    assert_eq!(rt; spans.as_slice(), [span].as_slice());
+    Ok(())
+}
+
+fn assert_tokens_hold(rt: &impl Abort, alloc: Global, token: Token) -> Result<(), Fail> {
+    let mut list = Tokens::new(alloc);
+    list.push(token)?;
+    assert_eq!(rt; list.as_slice(), [token].as_slice());
     Ok(())
 }
 
 #[test]
 fn lists_and_texts_hold_what_they_are_given(rt: HostRuntime) -> Result<(), Fail> {
-    let span = Span { start: 3, end: 5 };
-    let mut spans = Spans::new(rt.alloc());
-    spans.push(span)?;
-    assert_eq!(rt; spans.as_slice(), [span].as_slice());
+    assert_spans_hold(&rt, rt.alloc(), Span { start: 3, end: 5 })?;
     let token = Token {
         kind: Kind::Star,
         start: 1,
         end: 2,
         column: 2,
     };
-    let mut list = Tokens::new(rt.alloc());
-    list.push(token)?;
-    assert_eq!(rt; list.as_slice(), [token].as_slice());
-    assert_eq!(rt; Text::new(rt.alloc(), "ℕ")?.as_str(), "ℕ");
+    assert_tokens_hold(&rt, rt.alloc(), token)?;
+    let text = Text::new(rt.alloc(), "ℕ")?;
+    assert_eq!(rt; text.as_str(), "ℕ");
     Ok(())
 }
