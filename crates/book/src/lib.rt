@@ -19,6 +19,3 @@ mod questions;
 
 pub use few::{Few, RuleUse};
 pub use kernel::{Book, Mark, NodeId, NodeRow};
-
-#[cfg(test)]
-mod tests;

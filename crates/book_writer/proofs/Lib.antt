@@ -16,4 +16,3 @@ pub mod MarksLaws
 pub mod NeededLaws
 pub mod NumberLaws
 pub mod WriteLaws
-pub mod TestLaws

@@ -21,6 +21,3 @@ mod writer;
 
 pub use laws::laws_of_derivable;
 pub use writer::write;
-
-#[cfg(test)]
-mod tests;

@@ -3,7 +3,7 @@ use Rattle.trees.specs.Judgements.{trees}
 use Rattle.trees.specs.Language.{Tm}
 use Rattle.rules.specs.Table.{lam, pi}
 use Rattle.book.proofs.TestLaws.{lam-use, lam-shifts}
-use Rattle.book.proofs.tests.function.Goals as goal
+use Rattle.kernel_tests.proofs.concluded.function.Goals as goal
 
 pub conclude-requires-clause-right : goal.conclude-requires-clause-right
 conclude-requires-clause-right g c =

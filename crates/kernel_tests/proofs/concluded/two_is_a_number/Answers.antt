@@ -2,7 +2,7 @@ use Rattle.trees.specs.Judgements.{Nil, trees}
 use Rattle.trees.specs.Language.{Tm}
 use Rattle.rules.specs.Table.{nat, zero, suc}
 use Rattle.book.proofs.TestLaws.{zero-follows, suc-follows, node-there}
-use Rattle.book.proofs.tests.two_is_a_number.Goals as goal
+use Rattle.kernel_tests.proofs.concluded.two_is_a_number.Goals as goal
 
 pub follow-requires : goal.follow-requires
 follow-requires g c = (Tm Nil (zero trees) (nat trees), zero-follows _ _ Nil c.in_ok-ctx.ensures.0)

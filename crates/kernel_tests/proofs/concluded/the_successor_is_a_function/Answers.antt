@@ -3,7 +3,7 @@ use Rattle.trees.specs.Judgements.{Nil, WithVar, trees}
 use Rattle.trees.specs.Language.{Ty, Tm}
 use Rattle.rules.specs.Table.{nat, suc}
 use Rattle.book.proofs.TestLaws.{var-follows, suc-follows}
-use Rattle.book.proofs.tests.the_successor_is_a_function.Goals as goal
+use Rattle.kernel_tests.proofs.concluded.the_successor_is_a_function.Goals as goal
 
 pub follow-requires : goal.follow-requires
 follow-requires g c = (Tm (WithVar Nil (nat trees)) (Var 0) (nat trees), var-follows _ _ Nil c.in_ok-ty.ensures.1)

@@ -2,7 +2,7 @@ use Rattle.trees.specs.Judgements.{Nil, trees}
 use Rattle.trees.specs.Language.{Ctx, Ty, Tm}
 use Rattle.rules.specs.Table.{nat, universe}
 use Rattle.book.proofs.TestLaws.{nat_u-follows, ty_u-follows}
-use Rattle.book.proofs.tests.numbers.Goals as goal
+use Rattle.kernel_tests.proofs.concluded.numbers.Goals as goal
 
 pub follow-requires : goal.follow-requires
 follow-requires g c = (Tm Nil (nat trees) (universe trees), nat_u-follows _ _ Nil c.in_ok-ctx.ensures.concludes)

@@ -9,7 +9,7 @@ ghost use Rattle.rules.specs.Table.{nat};
 ghost use Rattle.book.specs.Shown.{book_concludes, Extends};
 ghost use Rattle.book.specs.Tests.{Follows};
 
-use crate::{Book, Few, NodeId, RuleUse};
+use book::{Book, Few, NodeId, RuleUse};
 use rows::{Maker, Row, SubRow, TermId};
 use std::alloc::AllocError;
 use std::process::Abort;
@@ -30,7 +30,7 @@ fn few(numbers: &[u64]) -> Few
 
 /// Concludes a rule of one premise, whose parts are the first rows of what the premise says. The
 /// node says that.
-fn follow(
+pub fn follow(
     rt: &impl Abort,
     book: &mut Book,
     rule: RuleName,
@@ -54,7 +54,7 @@ fn follow(
 }
 
 /// `ctx []`
-fn empty_context(book: &mut Book) -> Result<NodeId, AllocError>
+pub fn empty_context(book: &mut Book) -> Result<NodeId, AllocError>
     ensures extends { Extends book.old book.new }
     ensures concludes { IfOk result (λ node. book_concludes book.new node.0 ≡ Some (Ctx Nil)) }
 {

@@ -1,6 +1,6 @@
 use Rattle.std.proofs.Common.{◌∙◌, ap, take, length, arith}
 use Rattle.book.proofs.TestLaws.{follows-within, follows-along, follows-shifts}
-use Rattle.book.proofs.tests.follow.Goals as goal
+use Rattle.kernel_tests.proofs.concluded.follow.Goals as goal
 
 pub split_at-requires : goal.split_at-requires
 split_at-requires g c =

@@ -1,5 +1,5 @@
 use Rattle.std.proofs.Common.{◌≡◌, take}
-use Rattle.book.proofs.tests.few.Given as goal
+use Rattle.kernel_tests.proofs.concluded.few.Given as goal
 
 abbrev pub invariant-loop-number : goal.invariant-loop-number
 invariant-loop-number l = l.few ≡ take l.number-index l.numbers
