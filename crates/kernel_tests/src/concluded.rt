@@ -143,14 +143,20 @@ fn a_row_of_any_kind_is_read_as_it_was_made(rt: HostRuntime) -> Result<(), Fail>
     Ok(())
 }
 
+fn assert_trees_compared(rt: &impl Abort, book: &mut Book) -> Result<(), Fail> {
+    let zero = TermId(book.make(Op::Zero, &[])?);
+    let nat = TermId(book.make(Op::Nat, &[])?);
+    let same = book.same_tree(zero, zero)?;
+    assert!(rt; same);
+    let same = book.same_tree(zero, nat)?;
+    assert!(rt; !same);
+    Ok(())
+}
+
 #[test]
 fn trees_are_the_same_by_what_they_mean(rt: HostRuntime) -> Result<(), Fail> {
     let mut book = Book::new(rt.alloc())?;
-    let zero = book.make(Op::Zero, &[])?;
-    let nat = book.make(Op::Nat, &[])?;
-    assert!(rt; book.same_tree(TermId(zero), TermId(zero))?);
-    assert!(rt; !book.same_tree(TermId(zero), TermId(nat))?);
-    Ok(())
+    assert_trees_compared(&rt, &mut book)
 }
 
 #[test]
