@@ -1,6 +1,8 @@
 //! Forms written in postfix, with what they are; and laws that hold of all forms.
 
 ghost use Rattle.std.specs.Prelude.{◌≡◌, true, false, IfOk};
+ghost use Rattle.points.specs.Values.{join, meet, negation};
+ghost use Rattle.interval.specs.Forms.{form_value, HasValue};
 
 use crate::{Form, FormStack, Lattice, Literal};
 use std::alloc::{AllocError, Global};
@@ -156,21 +158,49 @@ fn all_products_of_twelve_names(rt: HostRuntime) -> Result<(), AllocError> {
     Ok(())
 }
 
+fn negated_meet(left: &Form, right: &Form) -> Result<Form, AllocError>
+    ensures { IfOk result (HasValue (λ valuation.
+        negation (meet (form_value left.now valuation) (form_value right.now valuation)))) }
+{
+    Ok(left.meet(right)?.neg()?)
+}
+
+fn joined_negations(left: &Form, right: &Form) -> Result<Form, AllocError>
+    ensures { IfOk result (HasValue (λ valuation. join
+        (negation (form_value left.now valuation)) (negation (form_value right.now valuation)))) }
+{
+    Ok(left.neg()?.join(&right.neg()?)?)
+}
+
 /// The negation of a meet is the join of the negations.
 fn negates_meet(left: &Form, right: &Form) -> Result<bool, AllocError>
     ensures { IfOk result (λ same. same ≡ true) }
 {
-    let negated = left.meet(right)?.neg()?;
-    let joined = left.neg()?.join(&right.neg()?)?;
+    let negated = negated_meet(left, right)?;
+    let joined = joined_negations(left, right)?;
     Ok(negated.same(&joined))
+}
+
+fn negated_join(left: &Form, right: &Form) -> Result<Form, AllocError>
+    ensures { IfOk result (HasValue (λ valuation.
+        negation (join (form_value left.now valuation) (form_value right.now valuation)))) }
+{
+    Ok(left.join(right)?.neg()?)
+}
+
+fn met_negations(left: &Form, right: &Form) -> Result<Form, AllocError>
+    ensures { IfOk result (HasValue (λ valuation. meet
+        (negation (form_value left.now valuation)) (negation (form_value right.now valuation)))) }
+{
+    Ok(left.neg()?.meet(&right.neg()?)?)
 }
 
 /// The negation of a join is the meet of the negations.
 fn negates_join(left: &Form, right: &Form) -> Result<bool, AllocError>
     ensures { IfOk result (λ same. same ≡ true) }
 {
-    let negated = left.join(right)?.neg()?;
-    let met = left.neg()?.meet(&right.neg()?)?;
+    let negated = negated_join(left, right)?;
+    let met = met_negations(left, right)?;
     Ok(negated.same(&met))
 }
 

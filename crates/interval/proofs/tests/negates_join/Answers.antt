@@ -1,9 +1,6 @@
-use Rattle.std.proofs.Common.{ap, ◌∙◌}
-use Rattle.points.specs.Values.{negation}
+use Rattle.std.proofs.Common.{sym, ◌∙◌}
 use Rattle.interval.proofs.tests.negates_join.Goals as goal
 
 pub returns : goal.returns
 returns c =
-    c.same.ensures.values.1 (λ valuation.
-    rw (c.in_ok-met.ensures valuation, c.in_ok-neg.ensures valuation, c.in_ok-neg-2.ensures valuation)
-    (c.in_ok-negated.ensures valuation ∙ ap negation (c.in_ok-join.ensures valuation)))
+    c.same.ensures.values.1 (λ valuation. c.in_ok-negated.ensures valuation ∙ sym (c.in_ok-met.ensures valuation))
