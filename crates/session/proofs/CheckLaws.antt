@@ -1,5 +1,6 @@
 -- What is found of the definitions of a module, stored and told.
-use Rattle.std.proofs.Common.{◌≡◌, ℕ, List, [], ◌∷◌, length, refl, sym, ◌∙◌, ap, subst, Option, Some, Result, Ok, Err, IfOk, Vec, Global}
+use Rattle.std.proofs.Common.{◌≡◌, ◌<◌, ◌+◌, ℕ, List, [], ◌∷◌, ◌++◌, length, take, slice_index_or, append_assoc, refl, sym, ◌∙◌, ap, subst, Option, Some, Result, Ok, Err, IfOk, Vec, Global}
+use Rattle.std.proofs.lemmas.List.{flat_map_more, take_more}
 use Rattle.std.specs.declared.alloc.AllocError.{AllocError}
 use Rattle.std.specs.List.{AllZip}
 use Rattle.edge.specs.Counts.{FileCounts, Rose, counted_store}
@@ -50,6 +51,14 @@ nodes_conclude b (r ∷ rs) (d ∷ ds) all =
 -- and so those of definitions that are checked
 pub all_conclude : (b : Contents) (defs : List CodeDef) (roots : Vec Root Global) (nodes : List NodeId) → AreChecked b defs (Direct roots) → nodes ≡ nodes_of roots.items → concluded_by b nodes ≡ Some (judgements_of (stated_by defs))
 all_conclude b defs roots nodes checked are = ap (concluded_by b) are ∙ nodes_conclude b roots.items (stated_by defs) checked.1
+
+-- the nodes of one definition more
+pub push_root : (new mid old : List NodeId) (roots : List Root) (i : ℕ) (d : Root) → i < length roots → old ≡ nodes_of (take i roots) → mid ≡ old ++ (slice_index_or roots i d).ty ∷ [] → new ≡ mid ++ (slice_index_or roots i d).body ∷ [] → new ≡ nodes_of (take (i + 1) roots)
+push_root new mid old roots i d l before ty body =
+    let r = slice_index_or roots i d in
+    let nodes = nodes_of (take i roots) in
+    body ∙ ap (λ ns. ns ++ r.body ∷ []) (ty ∙ ap (λ ns. ns ++ r.ty ∷ []) before)
+    ∙ (append_assoc nodes (r.ty ∷ []) (r.body ∷ []) ∙ (flat_map_more (λ (x : Root). x.ty ∷ x.body ∷ []) [] (take i roots) r ∙ ap nodes_of (sym (take_more roots i d l))))
 
 -- files that hold the same, and of which the same is counted
 pub same_files : (one other : SeenFiles) → one.held ≡ other.held → one.counts ≡ other.counts → one ≡ other

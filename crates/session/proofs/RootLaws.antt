@@ -1,13 +1,17 @@
 -- Claims that are compared one after another.
-use Rattle.std.proofs.Common.{◌≡◌, ◌≢◌, ◌<◌, ◌≤◌, ◌+◌, ℕ, zero, suc, List, [], ◌∷◌, ◌++◌, map, length, take, min, slice_index_or, slice_get, refl, sym, ◌∙◌, ap, subst, arith, Option, Some, None, IsSome, inl, inr}
+use Rattle.std.proofs.Common.{◌≡◌, ◌≢◌, ◌<◌, ◌≤◌, ◌+◌, ℕ, zero, suc, List, [], ◌∷◌, ◌++◌, map, length, take, min, slice_index_or, slice_get, refl, sym, ◌∙◌, ap, subst, arith, Option, Some, None, IsSome, IfOk, Result, inl, inr}
 use Rattle.std.proofs.lemmas.Bool.{cases_lt}
-use Rattle.std.proofs.lemmas.List.{length-map}
+use Rattle.std.proofs.lemmas.List.{length-map, take-map}
+use Rattle.std.proofs.lemmas.Option.{slice_get-get_or, slice_get-map, slice_get_past}
+use Rattle.std.proofs.lemmas.Result.{IfOk-weaker}
+use Rattle.std.specs.List.{All}
+use Rattle.std.specs.Option.{option_map}
 use Rattle.trees.specs.Judgements.{Judgement}
 use Rattle.trees.specs.declared.claim.Claim.{Claim}
 use Rattle.trees.specs.Claimed.{claimed}
 use Rattle.trees.specs.Things.{Meanings, Kept}
 use Rattle.replay.proofs.FiledLaws.{claimed-kept}
-use Rattle.session.specs.Modules.{DifferAt}
+use Rattle.session.specs.Modules.{Compares, DifferAt}
 
 -- these claims are these judgements
 abbrev pub Claim_all : Meanings → List Claim → List Judgement → Type 0
@@ -48,11 +52,6 @@ pub all_same : {A : Type 0} (xs ys : List A) (n : ℕ) → length xs ≤ n → l
 all_same xs ys n l m e = sym (take_long xs n l) ∙ e ∙ take_long ys n m
 
 -- where one list has ended and the other has not
-get_past : {A : Type 0} (xs : List A) (n : ℕ) → length xs ≤ n → slice_get xs n ≡ None
-get_past [] n l = refl
-get_past (x ∷ xs) zero l = absurd (omega arith)
-get_past (x ∷ xs) (suc n) l = get_past xs n (omega arith)
-
 get_within : {A : Type 0} (xs : List A) (n : ℕ) → n < length xs → slice_get xs n ≡ None → ⊥
 get_within [] n l e = omega arith
 get_within (x ∷ xs) zero l e = cc
@@ -62,8 +61,8 @@ pub ends_at : {A : Type 0} (xs ys : List A) (n : ℕ) → n ≡ min (length xs) 
 ends_at xs ys n is other e = record {
   same_before = e;
   differ = λ same. elim (cases_lt (length xs) (length ys)) [
-    | inl less ↦ get_within ys n (omega arith) (sym same ∙ get_past xs n (omega arith))
-    | inr more ↦ get_within xs n (let d : length ys < length xs = omega arith in omega arith) (same ∙ get_past ys n (omega arith))
+    | inl less ↦ get_within ys n (omega arith) (sym same ∙ slice_get_past xs n (omega arith))
+    | inr more ↦ get_within xs n (let d : length ys < length xs = omega arith in omega arith) (same ∙ slice_get_past ys n (omega arith))
   ];
 }
 
@@ -76,9 +75,55 @@ kept_all f g kept (c ∷ cs) (J ∷ Js) e =
     let rest : map (claimed f) cs ≡ map Some Js = cc in
     ap (λ x. x ∷ map (claimed g) cs) (claimed-kept f g kept c J first) ∙ ap (λ xs. Some J ∷ xs) (kept_all f g kept cs Js rest)
 
--- the claim that was read at a place
-pub claim_read : (f : Meanings) (cs : List Claim) (Js : List Judgement) (i : ℕ) (c : Claim) → Claim_all f cs Js → i < length cs → c ≡ slice_index_or cs i c → claimed f c ≡ slice_get Js i
-claim_read f cs Js i c all l e = ap (claimed f) e ∙ claim_at f cs Js i c all l
+-- each of these claims is a judgement
+pub all_judged : (f : Meanings) (cs : List Claim) (Js : List Judgement) → Claim_all f cs Js → All (λ c. IsSome (claimed f c)) cs
+all_judged f cs Js all i d l = is_there Js i (let long = claims_long f cs Js all in omega arith) (claim_at f cs Js i d all l)
+
+some_same : {A : Type 0} (xs ys : List A) → map Some xs ≡ map Some ys → xs ≡ ys
+some_same [] [] e = refl
+some_same [] (y ∷ ys) e = cc
+some_same (x ∷ xs) [] e = cc
+some_same (x ∷ xs) (y ∷ ys) e =
+    let first : x ≡ y = cc in
+    let rest : map Some xs ≡ map Some ys = cc in
+    let same : xs ≡ ys = some_same xs ys rest in cc
+
+compares_some : {A : Type 0} (xs ys : List A) (k : Option ℕ) → Compares (map Some xs) (map Some ys) k → Compares xs ys k
+compares_some xs ys None same = some_same xs ys same
+compares_some {A} xs ys (Some k) d = record {
+  same_before = some_same (take k xs) (take k ys) (sym (take-map (λ (x : A). Some x) k xs) ∙ d.same_before ∙ take-map (λ (x : A). Some x) k ys);
+  differ = λ same. d.differ (slice_get-map (λ (x : A). Some x) xs k ∙ ap (option_map (λ (x : A). Some x)) same ∙ sym (slice_get-map (λ (x : A). Some x) ys k));
+}
+
+-- claims compare as the judgements that they are
+pub compares_claims : {E : Type 0} (f : Meanings) (roots claims : List Claim) (Ks Js : List Judgement) (r : Result (Option ℕ) E) → Claim_all f roots Ks → Claim_all f claims Js
+    → IfOk r (Compares (map (claimed f) roots) (map (claimed f) claims)) → IfOk r (Compares Ks Js)
+compares_claims f roots claims Ks Js r left right is =
+    let known : IfOk r (Compares (map Some Ks) (map (claimed f) claims)) = subst (λ xs. IfOk r (Compares xs (map (claimed f) claims))) left is in
+    let both : IfOk r (Compares (map Some Ks) (map Some Js)) = subst (λ ys. IfOk r (Compares (map Some Ks) ys)) right known in
+    IfOk-weaker r (Compares (map Some Ks) (map Some Js)) (Compares Ks Js) (compares_some Ks Js) both
+
+-- the claims at a place, compared
+
+judged_at : (f : Meanings) (cs : List Claim) (i : ℕ) (d : Claim) → i < length cs → slice_get (map (claimed f) cs) i ≡ Some (claimed f (slice_index_or cs i d))
+judged_at f cs i d l = slice_get-map (claimed f) cs i ∙ ap (option_map (claimed f)) (slice_get-get_or cs i d l)
+
+pub same_on : (f g : Meanings) (cs ds : List Claim) (i : ℕ) (d : Claim) → f ≡ g → i < length cs → i < length ds → take i (map (claimed g) cs) ≡ take i (map (claimed g) ds)
+    → claimed f (slice_index_or cs i d) ≡ claimed f (slice_index_or ds i d) → take (i + 1) (map (claimed g) cs) ≡ take (i + 1) (map (claimed g) ds)
+same_on f g cs ds i d kept l m before same =
+    let now : claimed g (slice_index_or cs i d) ≡ claimed g (slice_index_or ds i d) = subst (λ h. claimed h (slice_index_or cs i d) ≡ claimed h (slice_index_or ds i d)) kept same in
+    take_same (map (claimed g) cs) (map (claimed g) ds) i (omega (arith, length-map cs (claimed g))) (omega (arith, length-map ds (claimed g))) before
+    (judged_at g cs i d l ∙ ap Some now ∙ sym (judged_at g ds i d m))
+
+pub differ_at : (f g : Meanings) (cs ds : List Claim) (i : ℕ) (d : Claim) → f ≡ g → i < length cs → i < length ds → take i (map (claimed g) cs) ≡ take i (map (claimed g) ds)
+    → claimed f (slice_index_or cs i d) ≢ claimed f (slice_index_or ds i d) → DifferAt (map (claimed g) cs) (map (claimed g) ds) i
+differ_at f g cs ds i d kept l m before other = record {
+  same_before = before;
+  differ = λ same.
+      let read : Some (claimed g (slice_index_or cs i d)) ≡ Some (claimed g (slice_index_or ds i d)) = sym (judged_at g cs i d l) ∙ same ∙ judged_at g ds i d m in
+      let now : claimed g (slice_index_or cs i d) ≡ claimed g (slice_index_or ds i d) = cc in
+      other (subst (λ h. claimed h (slice_index_or cs i d) ≡ claimed h (slice_index_or ds i d)) (sym kept) now);
+}
 
 -- one root more
 one_more : (Js : List Judgement) (i : ℕ) → i < length Js → map Some (take i Js) ++ slice_get Js i ∷ [] ≡ map Some (take (i + 1) Js)

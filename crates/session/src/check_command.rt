@@ -1,10 +1,12 @@
 //! The command `check`: it checks a module as it stands, and stores its derivation.
 
-ghost use Rattle.std.specs.Prelude.{◌≡◌, ◌<◌, IfOk, Some, length, slice_get};
+ghost use Rattle.std.specs.Prelude.{◌≡◌, ◌<◌, ℕ, List, IfOk, IsSome, Some, length, slice_get};
 ghost use Rattle.layout_lexer.specs.declared.token.Span.{Span};
+ghost use Rattle.trees.specs.Judgements.{Judgement};
 ghost use Rattle.resolver.specs.Resolved.{defs_in};
 ghost use Rattle.edge.specs.Seen.{seen_files};
 ghost use Rattle.linking.specs.Linked.{IsLinked};
+ghost use Rattle.book_writer.specs.Written.{IsWritten, concluded_by};
 ghost use Rattle.session.specs.Checks.{IsChecked, IsRefusedAt, MayCheck, MayLeave, Place, Stores};
 ghost use Rattle.session.specs.Checks.{nodes_of, places};
 ghost use Rattle.session.specs.Outcomes.{IsCounted};
@@ -41,20 +43,34 @@ fn nodes_of(alloc: Global, roots: &[Root]) -> Result<Vec<NodeId>, AllocError>
     Ok(nodes)
 }
 
+/// The bytes of the derivation of what definitions state.
+fn derivation_of(alloc: Global, book: &Book, roots: &[Root]) -> Result<Vec<u8>, AllocError>
+    requires { IsSome (concluded_by book.now (nodes_of roots.now)) }
+    ensures { (Js : List Judgement) → concluded_by book.now (nodes_of roots.now) ≡ Some Js →
+        IfOk result (λ bytes. (rows : ℕ) × IsWritten bytes.items rows Js) }
+{
+    let nodes = nodes_of(alloc, roots)?;
+    let mut bytes = Vec::new(alloc);
+    let _rows = write(book, alloc, &nodes, &mut bytes)?;
+    Ok(bytes)
+}
+
+/// Checks definitions in order over a book, and writes the derivation of what they state.
+fn derive_over(alloc: Global, book: &mut Book, defs: &[CodeDef]) -> Result<Found, AllocError>
+    ensures { IfOk result (IsChecked defs.now) }
+{
+    match check_definitions(alloc, book, defs)? {
+        Checked::NotDirect(place) => Ok(Found::NotDirect(place)),
+        Checked::Direct(roots) => Ok(Found::Derived(derivation_of(alloc, book, &roots)?)),
+    }
+}
+
 /// Checks definitions in order, and writes the derivation of what they state.
 fn derive(alloc: Global, defs: &[CodeDef]) -> Result<Found, AllocError>
     ensures { IfOk result (IsChecked defs.now) }
 {
     let mut book = Book::new(alloc)?;
-    match check_definitions(alloc, &mut book, defs)? {
-        Checked::NotDirect(place) => Ok(Found::NotDirect(place)),
-        Checked::Direct(roots) => {
-            let nodes = nodes_of(alloc, &roots)?;
-            let mut bytes = Vec::new(alloc);
-            let _rows = write(&book, alloc, &nodes, &mut bytes)?;
-            Ok(Found::Derived(bytes))
-        }
-    }
+    derive_over(alloc, &mut book, defs)
 }
 
 /// The module that holds the definition at this place among those of all modules.

@@ -1,6 +1,7 @@
 //! Whether the roots of a file are the judgements of a module.
 
-ghost use Rattle.std.specs.Prelude.{◌≡◌, ◌<◌, IfOk, Some, length, map, slice_get};
+ghost use Rattle.std.specs.Prelude.{◌≡◌, ◌<◌, IfOk, IsSome, Some, length, map};
+ghost use Rattle.std.specs.List.{All};
 ghost use Rattle.trees.specs.Claimed.{claimed};
 ghost use Rattle.translation.specs.Translated.{judgements_of};
 ghost use Rattle.replay.specs.Shown.{root_judgements, rows_mean};
@@ -25,18 +26,18 @@ fn root_claims(alloc: Global, rows: &Rows) -> Result<Vec<Claim>, AllocError>
     Ok(claims)
 }
 
-/// The first root of a file that is not the judgement of the definitions at its place, or where
-/// there are more of the ones than of the others, if there is one.
-pub(crate) fn first_other_root(
-    alloc: Global,
-    mut rows: Rows,
-    defs: &[CodeDef],
+/// The first place where two claims are not the same judgement, or where there are more of the ones
+/// than of the others, if there is one.
+fn first_difference(
+    rows: &mut Rows,
+    roots: &[Claim],
+    claims: &[Claim],
 ) -> Result<Option<u64>, AllocError>
-    ensures { IfOk result
-        (Compares (root_judgements rows) (judgements_of (stated_by defs.now))) }
+    requires roots { All (λ c. IsSome (claimed (rows_mean rows.old) c)) roots.now }
+    requires claims { All (λ c. IsSome (claimed (rows_mean rows.old) c)) claims.now }
+    ensures { let judgements = map (claimed (rows_mean rows.old)) in
+        IfOk result (Compares (judgements roots.now) (judgements claims.now)) }
 {
-    let roots = root_claims(alloc, &rows)?;
-    let claims = claims_of(alloc, &mut rows, defs)?;
     let both = roots.len().min(claims.len());
     for at in 0..both {
         if !rows.same_claim(roots[at], claims[at])? {
@@ -47,4 +48,27 @@ pub(crate) fn first_other_root(
         return Ok(None);
     }
     Ok(Some(both as u64))
+}
+
+/// The first root that is not the judgement of the definitions at its place, as below.
+fn first_other(alloc: Global, rows: &mut Rows, defs: &[CodeDef]) -> Result<Option<u64>, AllocError>
+    ensures { IfOk result
+        (Compares (root_judgements rows.old) (judgements_of (stated_by defs.now))) }
+{
+    let roots = root_claims(alloc, rows)?;
+    let claims = claims_of(alloc, rows, defs)?;
+    first_difference(rows, &roots, &claims)
+}
+
+/// The first root of a file that is not the judgement of the definitions at its place, or where
+/// there are more of the ones than of the others, if there is one.
+pub(crate) fn first_other_root(
+    alloc: Global,
+    mut rows: Rows,
+    defs: &[CodeDef],
+) -> Result<Option<u64>, AllocError>
+    ensures { IfOk result
+        (Compares (root_judgements rows) (judgements_of (stated_by defs.now))) }
+{
+    first_other(alloc, &mut rows, defs)
 }
