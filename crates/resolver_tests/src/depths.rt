@@ -23,24 +23,37 @@ static NESTED: &[Nested] = &[
     ),
 ];
 
+/// Appends a piece so many times.
+fn push_all(text: &mut String, piece: &str) -> Result<(), AllocError> {
+    for _ in 0..DEPTH {
+        text.push_str(piece)?;
+    }
+    Ok(())
+}
+
 fn nested_text(alloc: Global, row: Nested) -> Result<String, AllocError> {
     let (before, inner, behind, _begins) = row;
     let mut text = String::new(alloc);
-    for _ in 0..DEPTH {
-        text.push_str(before)?;
-    }
+    push_all(&mut text, before)?;
     text.push_str(inner)?;
-    for _ in 0..DEPTH {
-        text.push_str(behind)?;
-    }
+    push_all(&mut text, behind)?;
     Ok(text)
+}
+
+fn nested_shown(alloc: Global, row: Nested) -> Result<String, AllocError> {
+    let text = nested_text(alloc, row)?;
+    exp_shown(alloc, &text)
+}
+
+fn begins_so(rt: &impl Abort, alloc: Global, row: Nested) -> Result<(), Fail> {
+    let shown = nested_shown(alloc, row)?;
+    assert!(rt; shown.starts_with(row.3));
+    Ok(())
 }
 
 fn begin_so(rt: &impl Abort, alloc: Global, rows: &[Nested]) -> Result<(), Fail> {
     for row in rows {
-        let text = nested_text(alloc, *row)?;
-        let shown = exp_shown(alloc, &text)?;
-        assert!(rt; shown.starts_with(row.3));
+        begins_so(rt, alloc, *row)?;
     }
     Ok(())
 }

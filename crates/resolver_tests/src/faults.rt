@@ -16,6 +16,31 @@ fn unmarked(alloc: Global, marked: &str) -> Result<(String, usize), AllocError> 
     Ok((text, before.len()))
 }
 
+/// A module of these definitions, without the `^`, and where it stood.
+fn unmarked_module(alloc: Global, defs: &str) -> Result<(String, usize), AllocError> {
+    let marked = format!(in alloc; "module M where\n{defs}\n")?;
+    unmarked(alloc, &marked)
+}
+
+/// What was shown of a text is this fault.
+fn assert_fault(
+    rt: &impl Abort,
+    alloc: Global,
+    shown: &str,
+    (cause, place): (&str, usize),
+    marked: &str,
+) -> Result<(), Fail> {
+    let wanted = format!(in alloc; "{cause}({place})")?;
+    assert_eq!(rt; shown, wanted.as_str(), "of {marked:?}");
+    Ok(())
+}
+
+fn exp_is_refused(rt: &impl Abort, alloc: Global, cause: &str, marked: &str) -> Result<(), Fail> {
+    let (text, place) = unmarked(alloc, marked)?;
+    let shown = exp_shown(alloc, &text)?;
+    assert_fault(rt, alloc, &shown, (cause, place), marked)
+}
+
 /// Each text is that of an expression.
 fn exps_are_refused(
     rt: &impl Abort,
@@ -24,12 +49,20 @@ fn exps_are_refused(
     rows: &[Marked],
 ) -> Result<(), Fail> {
     for marked in rows {
-        let (text, place) = unmarked(alloc, marked)?;
-        let wanted = format!(in alloc; "{cause}({place})")?;
-        let found = exp_shown(alloc, &text)?;
-        assert_eq!(rt; found.as_str(), wanted.as_str(), "of {marked:?}");
+        exp_is_refused(rt, alloc, cause, marked)?;
     }
     Ok(())
+}
+
+fn module_is_refused(
+    rt: &impl Abort,
+    alloc: Global,
+    cause: &str,
+    marked: &str,
+) -> Result<(), Fail> {
+    let (text, place) = unmarked_module(alloc, marked)?;
+    let shown = module_shown(alloc, &text)?;
+    assert_fault(rt, alloc, &shown, (cause, place), marked)
 }
 
 /// Each text is that of the definitions of a module.
@@ -40,11 +73,7 @@ fn modules_are_refused(
     rows: &[Marked],
 ) -> Result<(), Fail> {
     for marked in rows {
-        let module = format!(in alloc; "module M where\n{marked}\n")?;
-        let (text, place) = unmarked(alloc, &module)?;
-        let wanted = format!(in alloc; "{cause}({place})")?;
-        let found = module_shown(alloc, &text)?;
-        assert_eq!(rt; found.as_str(), wanted.as_str(), "of {marked:?}");
+        module_is_refused(rt, alloc, cause, marked)?;
     }
     Ok(())
 }

@@ -37,6 +37,14 @@ struct Shown<'a> {
 }
 
 impl<'a> Shown<'a> {
+    /// Nothing yet.
+    fn new(alloc: Global) -> Shown<'a> {
+        Shown {
+            into: String::new(alloc),
+            parts: Vec::new(alloc),
+        }
+    }
+
     fn then(&mut self, parts: &[Part<'a>]) -> Result<(), AllocError> {
         for part in parts.iter().rev() {
             self.parts.push(*part)?;
@@ -367,16 +375,25 @@ impl<'a> Shown<'a> {
         }
         Ok(())
     }
+
+    /// Writes a part with all that it has.
+    fn whole(&mut self, part: Part<'a>) -> Result<(), AllocError> {
+        self.parts.push(part)?;
+        self.all()
+    }
+
+    /// What was written.
+    fn written(self) -> String {
+        let Shown { into, parts } = self;
+        drop(parts);
+        into
+    }
 }
 
 fn part_shown<'a>(alloc: Global, part: Part<'a>) -> Result<String, AllocError> {
-    let mut shown = Shown {
-        into: String::new(alloc),
-        parts: Vec::new(alloc),
-    };
-    shown.parts.push(part)?;
-    shown.all()?;
-    Ok(shown.into)
+    let mut shown = Shown::new(alloc);
+    shown.whole(part)?;
+    Ok(shown.written())
 }
 
 pub fn code_shown(alloc: Global, code: &Code) -> Result<String, AllocError> {
