@@ -5,7 +5,7 @@ ghost use Rattle.resolver.specs.Resolved.{AreEarlier};
 
 use crate::shown::{code_shown, defs_shown};
 use grammar::{read, read_exp};
-use layout_lexer::{Tokens, tokens};
+use layout_lexer::tokens;
 use resolver::{Name, Scope, ScopeName, ScopeNames, resolve, resolve_exp};
 use std::alloc::{AllocError, Global};
 use std::process::Abort;
@@ -49,18 +49,14 @@ fn resolved_exp(alloc: Global, text: &str, exp: &Exp) -> Result<String, AllocErr
     }
 }
 
-fn read_exp_shown(alloc: Global, text: &str, tokens: &Tokens) -> Result<String, AllocError> {
-    match read_exp(alloc, text.as_bytes(), tokens) {
-        Ok(exp) => resolved_exp(alloc, text, &exp),
-        Err(_fault) => String::from_str(alloc, "not read"),
-    }
-}
-
 /// The code of an expression, shown, or the fault.
 pub fn exp_shown(alloc: Global, text: &str) -> Result<String, AllocError> {
-    match tokens(alloc, text.as_bytes()) {
-        Ok(tokens) => read_exp_shown(alloc, text, &tokens),
-        Err(_fault) => String::from_str(alloc, "no tokens"),
+    let Ok(tokens) = tokens(alloc, text.as_bytes()) else {
+        return String::from_str(alloc, "no tokens");
+    };
+    match read_exp(alloc, text.as_bytes(), &tokens) {
+        Ok(exp) => resolved_exp(alloc, text, &exp),
+        Err(_fault) => String::from_str(alloc, "not read"),
     }
 }
 
@@ -72,18 +68,14 @@ fn resolved_module(alloc: Global, text: &str, module: &Module) -> Result<String,
     }
 }
 
-fn read_module_shown(alloc: Global, text: &str, tokens: &Tokens) -> Result<String, AllocError> {
-    match read(alloc, text.as_bytes(), tokens) {
-        Ok(module) => resolved_module(alloc, text, &module),
-        Err(_fault) => String::from_str(alloc, "not read"),
-    }
-}
-
 /// The codes of the definitions of a module, shown, or the fault.
 pub fn module_shown(alloc: Global, text: &str) -> Result<String, AllocError> {
-    match tokens(alloc, text.as_bytes()) {
-        Ok(tokens) => read_module_shown(alloc, text, &tokens),
-        Err(_fault) => String::from_str(alloc, "no tokens"),
+    let Ok(tokens) = tokens(alloc, text.as_bytes()) else {
+        return String::from_str(alloc, "no tokens");
+    };
+    match read(alloc, text.as_bytes(), &tokens) {
+        Ok(module) => resolved_module(alloc, text, &module),
+        Err(_fault) => String::from_str(alloc, "not read"),
     }
 }
 
