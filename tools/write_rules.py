@@ -209,6 +209,22 @@ def code_signatures(found):
                             "Shows (signature_of rule) result", arms)
 
 
+def by_name(found):
+    return sorted((rule for family in found for rule in family.rules), key=lambda rule: rule.name)
+
+
+def numbers(found):
+    places = {rule.name: at for at, rule in enumerate(by_name(found))}
+    lines = []
+    for family in found:
+        arms = [f"        {family.enum}::{rule.variant} => {places[rule.name]}," for rule in family.rules]
+        lines += function(f"fn {family.word}_number(rule: {family.enum}) -> u64",
+                          f"slice_get RULES.now result ≡ Some (RuleName.{family.variant} rule)", arms) + [""]
+    arms = [f"        RuleName::{family.variant}(rule) => {family.word}_number(rule)," for family in found]
+    lines.append("/// The number of a rule among all of them, which are in the order of their names.")
+    return lines + function("pub fn rule_number(rule: RuleName) -> u64", "slice_get RULES.now result ≡ Some rule", arms)
+
+
 def enums(found):
     derive = "#[derive(Clone, Copy, Debug, PartialEq, Eq)]"
     lines = []
@@ -218,9 +234,8 @@ def enums(found):
     lines += ["/// A rule. The rules stand in families.", derive, "pub enum RuleName {"]
     lines += [f"    {family.variant}({family.enum})," for family in found] + ["}", ""]
     lines += ["/// Every rule, in the order of their names.", "pub static RULES: &[RuleName] = &["]
-    every = sorted((rule for family in found for rule in family.rules), key=lambda r: r.name)
     lines += [f"    RuleName::{rule.family.variant}({rule.family.enum}::{rule.variant}),"
-              for rule in every]
+              for rule in by_name(found)]
     return lines + ["];"]
 
 
@@ -523,6 +538,7 @@ def main():
     signatures = THEORY / "src" / "signatures.rt"
     put(THEORY / "src" / "rule.rt", f"// {BEGIN}", [""] + enums(found) + [""], f"// {END}")
     put(signatures, f"// {BEGIN}", [""] + code_signatures(found) + [""])
+    put(THEORY / "src" / "numbers.rt", f"// {BEGIN}", [""] + numbers(found) + [""])
     put(names, f"-- {BEGIN}", [""] + spec_signatures(found) + [""], f"-- {END}")
     put(tables, f"  -- {BEGIN}", [""] + table(found) + [""])
     put_imports(names, found)

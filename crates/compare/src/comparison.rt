@@ -83,12 +83,12 @@ impl Comparison {
         Ok(self.agree(rows)?)
     }
 
-    /// Forgets what was asked, and keeps the memory.
+    /// Forgets what was asked, and keeps the memory. The cost is that of what was asked.
     fn clear(&mut self)
         ensures { self.new.pairs.keys ≡ [] }
     {
         self.environments.clear();
-        self.pairs.clear();
+        self.pairs.truncate(0);
     }
 
     /// Asks whether the trees of two rows are the same.

@@ -9,15 +9,17 @@
 //! ```
 #![tactic(auto)]
 
+mod numbers;
 mod operators;
 mod rule;
 mod signatures;
 
+pub use numbers::rule_number;
 pub use operators::op_of;
 pub use rule::{
     CompRule, ContextRule, EqualityRule, GlueRule, InstanceRule, NatRule, PathRule, PiRule, RULES,
     RuleName, SigmaRule, SystemRule, UniverseRule, count_parts, count_premises, numbered_rule,
-    part_kind, part_kinds, rule_name, rule_number, rule_of,
+    part_kind, part_kinds, rule_name, rule_of,
 };
 pub use signatures::{Signature, signature_of};
 pub use trees::{Claim, ClaimRows, JudgementForm, Op, PartKind, binds, kid_count, op_name};

@@ -362,17 +362,6 @@ pub fn rule_of(name: &[u8], version: u32) -> Option<RuleName>
     }
 }
 
-/// The number of a rule among all of them, which are in the order of their names.
-pub fn rule_number(rule: RuleName) -> u64
-    ensures { slice_get RULES.now result ≡ Some rule }
-{
-    let name = rule_name(rule).as_bytes();
-    match RULES.binary_search_by(|other| rule_name(*other).as_bytes().cmp(name)) {
-        Ok(at) => at as u64,
-        Err(_) => unreachable!(),
-    }
-}
-
 /// The rule of a number.
 pub fn numbered_rule(number: u64) -> RuleName
     requires { number < length RULES.now }
