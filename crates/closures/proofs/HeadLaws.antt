@@ -1,38 +1,34 @@
 -- What a closure opens to: what it means, what it names and what it weighs.
-use Rattle.std.proofs.Common.{◌≡◌, ℕ, suc, ◌+◌, ◌≤◌, List, [], ◌∷◌, length, length-append, refl, sym, ◌∙◌, ap, ap₂, subst, arith, Option, Some, None, inl, inr}
-use Rattle.std.specs.Prelude.{option_and_then, slice_get}
+use Rattle.std.proofs.Common.{◌≡◌, ℕ, suc, ◌+◌, ◌≤◌, List, [], ◌∷◌, length, length-append, refl, sym, ◌∙◌, ap, subst, arith, Option, Some, None}
+use Rattle.std.specs.Prelude.{option_and_then}
 use Rattle.std.specs.List.{All}
 use Rattle.std.proofs.lemmas.List.Elements.{All-nil, All-cons, All-weaker}
-use Rattle.std.proofs.lemmas.Option.{get_or_from_slice_get}
 use Rattle.trees.specs.declared.op.Op.{Op}
 use Rattle.trees.specs.Operators.{binds_of}
-use Rattle.trees.specs.Trees.{Tree, Trees, NoTrees, More, Subst, Var, Make, trees_of, apply, id, shift_by, count_of}
+use Rattle.trees.specs.Trees.{Tree, Subst, Var, Make, trees_of, apply}
 use Rattle.trees.specs.Things.{Thing, ATree, ASubst, AContext, Meanings, both, consed, over_kids, meanings, only_trees, made, instance_of}
 use Rattle.trees.proofs.Meanings.{meanings-cons}
 use Rattle.substitution.specs.Delayed.{Delayed as UnderBinders, at_depth, closed, deeper, closed_kids}
-use Rattle.substitution.proofs.ThenLaws.{shift_by-then-shift_by}
-use Rattle.substitution.proofs.Closures.{closed-make, closed-id, closed-then}
-use Rattle.closures.specs.declared.environments.Delayed.{Delayed}
-use Rattle.closures.specs.declared.environments.Delayed.TheVariants.{Under, Raised}
+use Rattle.substitution.proofs.Closures.{closed-make}
+use Rattle.closures.specs.declared.environments.Delayed.TheVariants.{Under}
 use Rattle.closures.specs.declared.environments.Environment.{Environment}
 use Rattle.closures.specs.declared.environments.Environment.TheVariants as env
 use Rattle.closures.specs.declared.closure.Closure.{Closure}
 use Rattle.closures.specs.declared.variables.Found.{Found}
 use Rattle.closures.specs.declared.variables.Found.TheVariants as found
-use Rattle.rows.specs.declared.views.SubSize.{SubSize}
-use Rattle.rows.specs.Views.{IsTree, IsSubst, IsSizeOf, IsPushed}
+use Rattle.rows.specs.Views.{IsTree, IsSubst}
 use Rattle.closures.specs.Environments.{Waiting, waiting, deepened, listed, IsWithin}
-use Rattle.closures.specs.Closures.{delays, delayed_subst, subst_of, under, kid_things, all_there, ShiftWaits, Nothing, First, Added, WaitsBefore, IsDelayed, Stands, StandsUnder, IsClosure, FoundStands, closure_meaning, variable_meaning, found_meaning}
-use Rattle.closures.specs.Weights.{row_weight, weight_of}
+use Rattle.closures.specs.Waits.{WaitsFor}
+use Rattle.closures.specs.Closures.{delays, delayed_subst, subst_of, under, kid_things, all_there, IsDelayed, Stands, StandsUnder, IsClosure, FoundStands, closure_meaning, variable_meaning, found_meaning}
+use Rattle.closures.specs.Weights.{row_weight}
 use Rattle.rows.specs.Tables.{Grows}
 use Rattle.rows.specs.declared.views.TermId.{TermId}
 use Rattle.rows.specs.declared.views.SubId.{SubId}
 use Rattle.rows.proofs.OptionLaws.{both-some, one-some}
 use Rattle.rows.proofs.MeaningLaws.{over_kids-is, over_kids-there}
 use Rattle.rows.proofs.TableLaws.{grows-same, grows-grows}
-use Rattle.closures.proofs.EnvironmentLaws.{deepened-zero, listed-grows, is_before-more}
+use Rattle.closures.proofs.EnvironmentLaws.{listed-grows, is_before-more}
 use Rattle.closures.proofs.VariableLaws.{stands-past}
-use Rattle.closures.proofs.WeightLaws.{row_weight-pos}
 
 -- what an instance opens to: its tree, before which its substitution waits
 pub record Opened (f : Meanings) (o : Option Thing) (t : TermId) (s : SubId) (ws : List Waiting) : Type 0 where
@@ -154,108 +150,16 @@ tree-follows f known new c k x tree is becomes grows meaning stands = record {
   stands = λ n h. subst (FoundStands f new n) becomes (stands n h.environment);
 }
 
--- nothing need wait for the identity
-under-id : (o : Option Thing) (env : List UnderBinders) → under o (at_depth 0 id ∷ env) ≡ under o env
-under-id None env = refl
-under-id (Some (ATree t)) env = ap (λ u. Some (ATree u)) (closed-id t 0 env)
-under-id (Some (ASubst d)) env = refl
-under-id (Some (AContext G)) env = refl
-
--- a substitution that pushes nothing is a shift
-pub size-shift : (o : Option Thing) (size : SubSize) → IsSizeOf o size → size.pushed ≡ Some 0 → o ≡ Some (ASubst (shift_by size.shift))
-size-shift None size is p = absurd is
-size-shift (Some (ATree t)) size is p = absurd is
-size-shift (Some (AContext G)) size is p = absurd is
-size-shift (Some (ASubst d)) size is p =
-    let Counts : Option ℕ → Type 0 = IsPushed (count_of d.pushed) in
-    let none : d.pushed ≡ NoTrees = uncounted d.pushed (subst Counts p is.0) in
-    ap₂ (λ ts n. Some (ASubst (record { pushed = ts; shift = n }))) none is.1
-  where
-    uncounted : (ts : Trees) → count_of ts ≡ 0 → ts ≡ NoTrees
-    uncounted NoTrees e = refl
-    uncounted (More t rest) e = absurd (omega arith)
-
--- two shifts that wait, one after the other, are one
-under-shifts : (o : Option Thing) (n m : ℕ) (env : List UnderBinders) → under o (at_depth 0 (shift_by (n + m)) ∷ env) ≡ under o (at_depth 0 (shift_by n) ∷ at_depth 0 (shift_by m) ∷ env)
-under-shifts None n m env = refl
-under-shifts (Some (ATree t)) n m env =
-    ap (λ u. Some (ATree u)) (ap (λ d. closed t (at_depth 0 d ∷ env)) (sym (shift_by-then-shift_by n m)) ∙ sym (closed-then t 0 (shift_by n) (shift_by m) env))
-under-shifts (Some (ASubst d)) n m env = refl
-under-shifts (Some (AContext G)) n m env = refl
-
--- a shift that waits means as much as it does before the others
-shift-means : (f : Meanings) (o : Option Thing) (shift : ℕ) (ws longer : List Waiting) → ShiftWaits shift ws longer → under o (delays f longer) ≡ under o (at_depth 0 (shift_by shift) ∷ delays f ws)
-shift-means f o shift ws longer (Nothing none e) =
-    ap (λ l. under o (delays f l)) e ∙ sym (under-id o (delays f ws)) ∙ ap (λ n. under o (at_depth 0 (shift_by n) ∷ delays f ws)) (sym none)
-shift-means f o shift ws longer (First e) = ap (λ l. under o (delays f l)) e
-shift-means f o shift ws longer (Added by rest first e) =
-    ap (λ l. under o (delays f l)) e ∙ under-shifts o shift by (delays f rest)
-    ∙ ap (λ l. under o (at_depth 0 (shift_by shift) ∷ delays f l)) (sym first)
-
--- it waits together with the shift that is the first of the others
-pub shift-added : (known new : List (List Waiting)) (rest longer after : Environment) (at by shift both : ℕ) (d : Delayed) → rest ≡ env.Node at 0 → slice_get known at ≡ Some (waiting 0 d ∷ listed known after) → d ≡ Raised by → both ≡ shift + by
-    → listed new longer ≡ waiting 0 (Raised both) ∷ listed known after → ShiftWaits shift (listed known rest) (listed new longer)
-shift-added known new rest longer after at by shift both d is there first sum list =
-    Added by (listed known after)
-    (ap (listed known) is ∙ ap (deepened 0) (get_or_from_slice_get known at (waiting 0 d ∷ listed known after) [] there) ∙ deepened-zero (waiting 0 d ∷ listed known after)
-    ∙ ap (λ x. waiting 0 x ∷ listed known after) first)
-    (list ∙ ap (λ n. waiting 0 (Raised n) ∷ listed known after) sum)
-
--- what waits before the others means as much as the substitution of the row there
-before-means : (f : Meanings) (o : Option Thing) (s : SubId) (ws longer : List Waiting) → WaitsBefore (f s.0) s ws longer → under o (delays f longer) ≡ under o (delays f (waiting 0 (Under s) ∷ ws))
-before-means f o s ws longer (inl e) = ap (λ l. under o (delays f l)) e
-before-means f o s ws longer (inr (shift, is, waits)) =
-    shift-means f o shift ws longer waits ∙ ap (λ d. under o (at_depth 0 (subst_of d) ∷ delays f ws)) (sym is)
-
--- each of what waits is a substitution, under n binders at most
-abbrev AllStand : Meanings → ℕ → List Waiting → Type 0
-AllStand f n ws = All (λ w. IsDelayed f w.delayed) ws × All (λ w. w.depth ≤ n) ws
-
-with-shift : (f : Meanings) (n shift : ℕ) (ws : List Waiting) → AllStand f n ws → AllStand f n (waiting 0 (Raised shift) ∷ ws)
-with-shift f n shift ws stand = (
-  All-cons (λ w. IsDelayed f w.delayed) (waiting 0 (Raised shift)) ws tt stand.0,
-  All-cons (λ w. w.depth ≤ n) (waiting 0 (Raised shift)) ws (omega arith) stand.1,
-)
-
-without-first : (f : Meanings) (n : ℕ) (w : Waiting) (ws : List Waiting) → AllStand f n (w ∷ ws) → AllStand f n ws
-without-first f n w ws stand = ((λ i d l. stand.0 (suc i) d (omega arith)), (λ i d l. stand.1 (suc i) d (omega arith)))
-
-shift-stands : (f : Meanings) (n shift : ℕ) (ws longer : List Waiting) → ShiftWaits shift ws longer → AllStand f n ws → AllStand f n longer
-shift-stands f n shift ws longer (Nothing none e) stand = subst (AllStand f n) (sym e) stand
-shift-stands f n shift ws longer (First e) stand = subst (AllStand f n) (sym e) (with-shift f n shift ws stand)
-shift-stands f n shift ws longer (Added by rest first e) stand =
-    subst (AllStand f n) (sym e) (with-shift f n (shift + by) rest (without-first f n (waiting 0 (Raised by)) rest (subst (AllStand f n) first stand)))
-
-pub before-stands : (f : Meanings) (known new : List (List Waiting)) (n : ℕ) (s : SubId) (environment longer : Environment) → Stands f known n environment → IsSubst (f s.0) → WaitsBefore (f s.0) s (listed known environment) (listed new longer) → IsWithin new longer → Stands f new n longer
-before-stands f known new n s environment longer stands substitution (inl e) within = Stands-push f known new n s environment longer stands substitution e within
-before-stands f known new n s environment longer stands substitution (inr (shift, is, waits)) within =
-    let all = shift-stands f n shift (listed known environment) (listed new longer) waits (stands.substs, stands.shallow) in
-    record { within = within; substs = all.0; shallow = all.1 }
-
-shift-weight : (shift : ℕ) (ws longer : List Waiting) → ShiftWaits shift ws longer → weight_of longer ≤ 1 + weight_of ws
-shift-weight shift ws longer (Nothing none e) = let w : weight_of longer ≡ weight_of ws = ap weight_of e in omega arith
-shift-weight shift ws longer (First e) = let w : weight_of longer ≡ 1 + weight_of ws = ap weight_of e in omega arith
-shift-weight shift ws longer (Added by rest first e) =
-    let v : weight_of longer ≡ 1 + weight_of rest = ap weight_of e in
-    let w : weight_of ws ≡ 1 + weight_of rest = ap weight_of first in
-    omega arith
-
--- and weighs no more
-pub before-weight : (f : Meanings) (s : SubId) (ws longer : List Waiting) → WaitsBefore (f s.0) s ws longer → weight_of longer ≤ row_weight s.0 + weight_of ws
-before-weight f s ws longer (inl e) = let w : weight_of longer ≡ row_weight s.0 + weight_of ws = ap weight_of e in omega arith
-before-weight f s ws longer (inr (shift, is, waits)) =
-    let w = shift-weight shift ws longer waits in
-    let some = row_weight-pos s.0 in
-    omega arith
-
 -- a closure whose row is an instance: its tree, where the substitution waits before the others
-pub instance-follows : (f : Meanings) (known new : List (List Waiting)) (c : Closure) (t : TermId) (s : SubId) (longer : Environment) → IsTree (f c.row.0) → f c.row.0 ≡ both instance_of (f t.0) (f s.0) → Grows known new → WaitsBefore (f s.0) s (listed known c.environment) (listed new longer) → IsWithin new longer → Follows f known c new (record { row = t; environment = longer })
+pub instance-follows : (f : Meanings) (known new : List (List Waiting)) (c : Closure) (t : TermId) (s : SubId) (longer : Environment) → IsTree (f c.row.0) → f c.row.0 ≡ both instance_of (f t.0) (f s.0) → Grows known new → WaitsFor f (subst_of (f s.0)) (row_weight s.0) (listed known c.environment) (listed new longer) → IsWithin new longer → Follows f known c new (record { row = t; environment = longer })
 instance-follows f known new c t s longer is meaning grows waits within =
     let o = instance-opens f (f c.row.0) t s (listed known c.environment) is meaning in
     record {
       grows = grows;
-      meaning = before-means f (f t.0) s (listed known c.environment) (listed new longer) waits ∙ o.meaning;
-      stands = λ n h. record { row = o.tree; environment = before-stands f known new n s c.environment longer h.environment o.subst waits within };
+      meaning = waits.means (f t.0) ∙ o.meaning;
+      stands = λ n h.
+          let all = waits.stands n (h.environment.substs, h.environment.shallow) in
+          record { row = o.tree; environment = record { within = within; substs = all.0; shallow = all.1 } };
     }
 
 -- what stands for a depth stands for each that is greater

@@ -3,6 +3,7 @@ pub mod WeightLaws
 pub mod VariableLaws
 pub mod NodeLaws
 pub mod LookLaws
-pub mod HeadLaws
 pub mod SubstLaws
+pub mod WaitLaws
+pub mod HeadLaws
 pub mod ChainLaws

@@ -76,7 +76,7 @@ pub plain : (f : Meanings) (ws : List Waiting) → All (IsPlainSubst f) ws → A
 plain f ws all = All-weaker (IsPlainSubst f) IsPlain (λ w p. p.plain) ws all
 
 -- a shift that drops all the trees of a substitution is a shift
-without-all : (n : ℕ) (p : Trees) (s : ℕ) → count_of p ≤ n → without n p s ≡ shift_by (n - count_of p + s)
+pub without-all : (n : ℕ) (p : Trees) (s : ℕ) → count_of p ≤ n → without n p s ≡ shift_by (n - count_of p + s)
 without-all n NoTrees s le = ap shift_by (let e : s + n ≡ n - 0 + s = omega arith in e)
 without-all zero (More t rest) s le = absurd (omega arith)
 without-all (suc n) (More t rest) s le = without-all n rest s (omega arith) ∙ ap shift_by (let e : n - count_of rest + s ≡ suc n - suc (count_of rest) + s = omega arith in e)

@@ -7,7 +7,6 @@ use Rattle.trees.specs.Operators.{binds_of}
 use Rattle.trees.specs.Trees.{Subst, Var, shift_by, id, count_of}
 use Rattle.trees.specs.Things.{Thing, ATree, ASubst, Meanings, both, consed, made}
 use Rattle.substitution.specs.Delayed.{Delayed as UnderBinders, at_depth, closed}
-use Rattle.rows.specs.declared.views.SubId.{SubId}
 use Rattle.rows.specs.Views.{IsTree, IsSubst}
 use Rattle.closures.specs.Environments.{Waiting, waiting, deepened, listed, IsWithin, deepest}
 use Rattle.closures.specs.declared.environments.Delayed.{Delayed}
@@ -110,19 +109,6 @@ IsPassed (Some (ASubst d)) lift index (Some past) =
 IsPassed (Some (ASubst d)) lift index None =
     (index < lift + count_of d.pushed) ⊎ (2 ^ 64 ≤ count_of d.pushed)
 IsPassed _ lift index past = ⊥
-
--- a shift waits before others: none, or alone, or together with one that is the first of them
-pub data ShiftWaits (shift : ℕ) (ws longer : List Waiting) : Type 0 where
-  Nothing : shift ≡ 0 → longer ≡ ws → ShiftWaits shift ws longer
-  First : longer ≡ waiting 0 (Raised shift) ∷ ws → ShiftWaits shift ws longer
-  Added : (by : ℕ) (rest : List Waiting) → ws ≡ waiting 0 (Raised by) ∷ rest
-      → longer ≡ waiting 0 (Raised (shift + by)) ∷ rest → ShiftWaits shift ws longer
-
--- the substitution of a row waits before others, as a shift if it is one
-abbrev pub WaitsBefore : Option Thing → SubId → List Waiting → List Waiting → Type 0
-WaitsBefore o row ws longer =
-    (longer ≡ waiting 0 (Under row) ∷ ws)
-    ⊎ ((shift : ℕ) × (o ≡ Some (ASubst (shift_by shift))) × ShiftWaits shift ws longer)
 
 -- the index grew by one shift at most
 abbrev pub IsNear : ℕ → Entered → Type 0

@@ -1,6 +1,6 @@
 //! The head of a closure.
 
-ghost use Rattle.std.specs.Prelude.{◌≡◌, ◌<◌, ◌≤◌, ◌+◌, ℕ, IfOk};
+ghost use Rattle.std.specs.Prelude.{◌≡◌, ◌<◌, ◌≤◌, ◌+◌, ℕ, IfOk, IfSome};
 ghost use Rattle.std.specs.List.{All};
 ghost use Rattle.trees.specs.Operators.{kids_of, binds_of};
 ghost use Rattle.rows.specs.Tables.{Grows};
@@ -8,7 +8,10 @@ ghost use Rattle.closures.specs.Shown.{lists};
 ghost use Rattle.closures.specs.Environments.{deepest, listed, deepened, IsWithin};
 ghost use Rattle.rows.specs.Views.{IsSubst};
 ghost use Rattle.closures.specs.Closures.{IsClosure, HeadStands, closure_meaning, head_meaning};
-ghost use Rattle.closures.specs.Closures.{ShiftWaits, WaitsBefore};
+ghost use Rattle.closures.specs.Closures.{IsDelayed, delayed_subst, subst_of};
+ghost use Rattle.closures.specs.Waits.{WaitsFor};
+ghost use Rattle.closures.specs.Weights.{row_weight};
+ghost use Rattle.trees.specs.Trees.{shift_by, then};
 
 use crate::closure::Closure;
 use crate::environments::{Delayed, Environment, Environments};
@@ -26,36 +29,63 @@ pub enum Head<'a> {
     Make(Op, &'a [u64], Environment),
 }
 
-/// The environment where a shift waits before others, with which it is one if a shift is the first
-/// of them.
-fn shifted(
+/// The shift that a shift and then a substitution are, if it drops all the trees that this pushes.
+fn shift_past<R: Reader>(rows: &R, shift: u64, delayed: Delayed) -> Option<u64>
+    requires { IsDelayed (R.means rows.now) delayed }
+    ensures { let f = R.means rows.now in IfSome result (λ both.
+        then (shift_by shift) (delayed_subst f delayed) ≡ shift_by both) }
+{
+    match delayed {
+        Delayed::Raised(by) => shift.checked_add(by),
+        Delayed::Under(subst) => {
+            let SubSize {
+                pushed: Some(pushed),
+                shift: by,
+            } = rows.size(subst)
+            else {
+                return None;
+            };
+            let left = shift.checked_sub(pushed)?;
+            let both = left.checked_add(by)?;
+            Some(both)
+        }
+    }
+}
+
+/// The environment where a shift waits before others. It is one shift with those that wait first,
+/// and trees that these push and it drops are gone. So a tree that is weakened has one environment
+/// under what it does not depend on.
+fn shifted<R: Reader>(
+    rows: &R,
     environments: &mut Environments,
     shift: u64,
     rest: Environment,
 ) -> Result<Environment, AllocError>
     requires within { IsWithin (lists environments.old) rest }
+    requires substs { All (λ w. IsDelayed (R.means rows.now) w.delayed)
+        (listed (lists environments.old) rest) }
     ensures grows { Grows (lists environments.old) (lists environments.new) }
-    ensures list { IfOk result (λ env. ShiftWaits shift
+    ensures list { IfOk result (λ env. WaitsFor (R.means rows.now) (shift_by shift) 1
         (listed (lists environments.old) rest) (listed (lists environments.new) env)) }
     ensures within { IfOk result (λ env. IsWithin (lists environments.new) env) }
 {
+    let mut shift = shift;
+    let mut rest = rest;
+    while let Environment::Node(at, 0) = rest {
+        let node = environments.node(at);
+        match shift_past(rows, shift, node.delayed) {
+            Some(both) => shift = both,
+            None => break,
+        }
+        rest = node.rest;
+    }
     if shift == 0 {
         return Ok(rest);
-    }
-    if let Environment::Node(at, 0) = rest {
-        let node = environments.node(at);
-        if let Delayed::Raised(by) = node.delayed {
-            if let Some(both) = shift.checked_add(by) {
-                return Ok(environments.push(Delayed::Raised(both), node.rest)?);
-            }
-        }
     }
     Ok(environments.push(Delayed::Raised(shift), rest)?)
 }
 
-/// The environment where the substitution of a row waits before others. Shifts are added up, and
-/// for the identity it is theirs: so a tree has one environment under one shift, however it came
-/// to be under it.
+/// The environment where the substitution of a row waits before others, as a shift if it is one.
 fn before<R: Reader>(
     rows: &R,
     environments: &mut Environments,
@@ -64,8 +94,11 @@ fn before<R: Reader>(
 ) -> Result<Environment, AllocError>
     requires subst { IsSubst (R.means rows.now subst.0) }
     requires within { IsWithin (lists environments.old) rest }
+    requires substs { All (λ w. IsDelayed (R.means rows.now) w.delayed)
+        (listed (lists environments.old) rest) }
     ensures grows { Grows (lists environments.old) (lists environments.new) }
-    ensures list { IfOk result (λ env. WaitsBefore (R.means rows.now subst.0) subst
+    ensures list { let f = R.means rows.now in IfOk result (λ env.
+        WaitsFor f (subst_of (f subst.0)) (row_weight subst.0)
         (listed (lists environments.old) rest) (listed (lists environments.new) env)) }
     ensures within { IfOk result (λ env. IsWithin (lists environments.new) env) }
 {
@@ -73,7 +106,7 @@ fn before<R: Reader>(
         SubSize {
             pushed: Some(0),
             shift,
-        } => Ok(shifted(environments, shift, rest)?),
+        } => Ok(shifted(rows, environments, shift, rest)?),
         _ => Ok(environments.push(Delayed::Under(subst), rest)?),
     }
 }

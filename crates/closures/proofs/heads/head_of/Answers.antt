@@ -1,11 +1,11 @@
-use Rattle.std.proofs.Common.{◌≡◌, ◌<◌, ◌≤◌, ◌+◌, sym, ◌∙◌, ap, subst, arith}
+use Rattle.std.proofs.Common.{◌<◌, ◌≤◌, ◌+◌, sym, ◌∙◌, ap, subst, arith}
 use Rattle.closures.specs.Shown.{lists}
 use Rattle.closures.specs.Environments.{deepest, listed}
 use Rattle.closures.specs.Closures.{found_meaning}
 use Rattle.closures.specs.Weights.{row_weight, weight_of, closure_weight, FoundLess}
 use Rattle.rows.proofs.TableLaws.{grows-grows}
 use Rattle.closures.proofs.WeightLaws.{row_weight-two}
-use Rattle.closures.proofs.HeadLaws.{follows-same, follows-follows, instance-follows, before-weight, make-opens, variable-of, tree-follows}
+use Rattle.closures.proofs.HeadLaws.{follows-same, follows-follows, instance-follows, make-opens, variable-of, tree-follows}
 use Rattle.closures.proofs.heads.head_of.Goals as goal
 
 pub loop-index-init : goal.loop-index-init
@@ -67,6 +67,9 @@ returns-in-Make-clause-stands g c = λ n h. (c.loop-index.invariant.stands n h).
 pub before-requires-clause-within : goal.before-requires-clause-within
 before-requires-clause-within g c = (c.loop-index.invariant.stands deepest c.requires).environment.within
 
+pub before-requires-clause-substs : goal.before-requires-clause-substs
+before-requires-clause-substs g c = (c.loop-index.invariant.stands deepest c.requires).environment.substs
+
 pub returns-in_err-before-in-Instance-clause-grows : goal.returns-in_err-before-in-Instance-clause-grows
 returns-in_err-before-in-Instance-clause-grows g c =
     grows-grows (lists c.args.environments.now) (lists c.loop-index.environments) (lists c.before-in-Instance.new.environments) c.loop-index.invariant.grows c.before-in-Instance.ensures.grows
@@ -81,8 +84,7 @@ loop-index-smaller g c =
     let t_earlier : t < row = c.in-Instance.ensures.earlier 0 0 (omega arith) in
     let s_earlier : s < row = c.in-Instance.ensures.earlier 1 0 (omega arith) in
     let both : row_weight t + row_weight s < row_weight row = row_weight-two t s row t_earlier s_earlier in
-    let more : weight_of longer ≤ row_weight s + weight_of ws =
-    before-weight (g.R.Rows.means c.args.rows.now) c.in-Instance.subst ws longer c.in_ok-before-in-Instance.ensures.list in
+    let more : weight_of longer ≤ row_weight s + weight_of ws = c.in_ok-before-in-Instance.ensures.list.weighs in
     let smaller : row_weight t + weight_of longer < row_weight row + weight_of ws = omega arith in
     smaller
 
