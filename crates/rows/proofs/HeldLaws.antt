@@ -32,6 +32,11 @@ kids-within rows p k op at is =
     let h = sum_by-at kid_cells rows k (held.Make op at) is in
     omega arith
 
+pub kids-there : (rows : List Held) (kids : List ℕ) (subs : List HeldSub) → AreHeld rows kids subs → (k : ℕ) (op : Op) (at : ℕ) → slice_get rows k ≡ Some (held.Make op at) → at + kids_of op ≤ length kids
+kids-there rows kids subs h k op at is =
+    let end = kids-within rows (are_placed rows kids subs h) k op at is in
+    omega (arith, h.kids_full)
+
 pub sub-within : (rows : List Held) → ArePlaced rows → (k at : ℕ) → slice_get rows k ≡ Some (held.Subst at) → at < subs_held rows
 sub-within rows p k at is =
     let e = p.subs_placed k at is in

@@ -1,5 +1,5 @@
 -- What a store's rows mean after a row is added, the last is dropped, or one is read.
-use Rattle.std.proofs.Common.{◌≡◌, ℕ, ◌+◌, ◌-◌, ◌^◌, min, ◌<◌, ◌≤◌, List, [], ◌∷◌, ◌++◌, length, take, drop, get_or, refl, sym, ◌∙◌, ap, ap₂, arith, Option, Some, None, IsSome, IsTrue, Bool, true, false, subst, length-append, cond}
+use Rattle.std.proofs.Common.{◌≡◌, ℕ, suc, ◌+◌, ◌-◌, ◌^◌, min, ◌<◌, ◌≤◌, List, [], ◌∷◌, ◌++◌, length, take, drop, get_or, refl, sym, ◌∙◌, ap, ap₂, arith, Option, Some, None, IsSome, IsTrue, Bool, true, false, subst, length-append, cond}
 use Rattle.std.specs.Prelude.{slice_get, option_and_then}
 use Rattle.std.specs.List.{All}
 use Rattle.std.proofs.lemmas.Option.{slice_get_within, slice_get_read}
@@ -9,7 +9,7 @@ use Rattle.std.proofs.Math.Seq.{drop-append_seam}
 use Rattle.trees.specs.declared.op.Op.{Op}
 use Rattle.trees.specs.Operators.{kids_of}
 use Rattle.trees.specs.Trees.{count_of, greatest_shift}
-use Rattle.trees.specs.Things.{Thing, ATree, ASubst, AContext, Meanings, both, then_of, Kept, kind_of, made, meanings}
+use Rattle.trees.specs.Things.{Thing, ATree, ASubst, AContext, Meanings, both, pushed_on, then_of, Kept, kind_of, made, meanings}
 use Rattle.rows.specs.declared.held.Held.{Held}
 use Rattle.rows.specs.declared.held.Held.TheVariants as held
 use Rattle.rows.specs.declared.held.HeldSub.{HeldSub}
@@ -17,7 +17,7 @@ use Rattle.rows.specs.declared.held.HeldSize.{HeldSize}
 use Rattle.substitution.proofs.ShiftBounds.{shift-then, count_of-then}
 use Rattle.rows.specs.Views.{IsSubst, ShiftAtMost, sub_meaning, sub_names}
 use Rattle.rows.specs.Counts.{most_counted}
-use Rattle.rows.proofs.CountLaws.{count_held-is, is-count_held, count_held-then, past-held}
+use Rattle.rows.proofs.CountLaws.{count_held-is, is-count_held, count_held-push, count_held-then, past-held}
 use Rattle.rows.specs.Held.{held_meaning, held_sub_meaning, kids_at, kind_held, thing_of, things_of, kid_cells, sub_cells, kids_held, subs_held, is_alone, IsHeldSize, IsSizeAt, AreHeld}
 use Rattle.rows.proofs.TableLaws.{length-built, slice_get-next, slice_get-prefix}
 use Rattle.rows.proofs.OptionLaws.{both-some}
@@ -197,6 +197,21 @@ kind_there rows kids subs h k r x is there =
     let same : m.thing ≡ x = cc in
     ap kind_of (sym same) ∙ m.kind
 
+-- the size of a substitution with one more tree
+pub push_size : (i new : ℕ) (o p : Option Thing) (a r : HeldSize) → i < new → IsSome (both pushed_on o p) → IsSizeAt i o a → r.pushed ≡ min (a.pushed + 1) most_counted → r.shift ≡ a.shift → IsSizeAt new (both pushed_on o p) r
+push_size i new (Some (ASubst d)) (Some (ATree t)) a r li fits size pushed shift =
+    let h = count_held-push i new (count_of d.pushed) a.pushed li (count_held-is i (count_of d.pushed) a.pushed size.count) in
+    record {
+      count = rw pushed (is-count_held new (suc (count_of d.pushed)) (min (a.pushed + 1) most_counted) h);
+      shift = size.shift ∙ sym shift;
+    }
+push_size i new (Some (ASubst d)) (Some (ASubst e)) a r li fits size pushed shift = cc
+push_size i new (Some (ASubst d)) (Some (AContext G)) a r li fits size pushed shift = cc
+push_size i new (Some (ASubst d)) None a r li fits size pushed shift = cc
+push_size i new (Some (ATree t)) p a r li fits size pushed shift = absurd size
+push_size i new (Some (AContext G)) p a r li fits size pushed shift = absurd size
+push_size i new None p a r li fits size pushed shift = absurd size
+
 -- the size of a substitution and then another
 pub then_size : (i j new : ℕ) (o p : Option Thing) (a b r : HeldSize) → i < new → j < new → j < 2 ^ 64 → ShiftAtMost greatest_shift o → IsSizeAt i o a → IsSizeAt j p b → r.pushed ≡ min (a.pushed + (b.pushed - a.shift)) most_counted → r.shift ≡ b.shift + (a.shift - b.pushed) → IsSizeAt new (both then_of o p) r
 then_size i j new (Some (ASubst d)) (Some (ASubst e)) a b r li lj few small first second pushed shift =
@@ -217,6 +232,12 @@ then_size i j new (Some (ASubst d)) None a b r li lj few small first second push
 then_size i j new (Some (ATree t)) p a b r li lj few small first second pushed shift = absurd first
 then_size i j new (Some (AContext G)) p a b r li lj few small first second pushed shift = absurd first
 then_size i j new None p a b r li lj few small first second pushed shift = first
+
+pub first-within : (xs : List Thing) (i j : ℕ) → IsSome (both pushed_on (slice_get xs i) (slice_get xs j)) → i < length xs
+first-within xs i j some =
+    let x = is_some-value (both pushed_on (slice_get xs i) (slice_get xs j)) some in
+    let b = both-some pushed_on (slice_get xs i) (slice_get xs j) x.0 x.1 in
+    slice_get_within xs i b.first b.first_is
 
 pub both-within : (xs : List Thing) (i j : ℕ) → IsSome (both then_of (slice_get xs i) (slice_get xs j)) → (i < length xs) × (j < length xs)
 both-within xs i j some =

@@ -1,4 +1,4 @@
-use Rattle.std.proofs.Common.{◌≡◌, ◌∙◌, ◌+◌, ◌-◌, ◌<◌, ℕ, List, take, drop, sym, ap, ap₂, subst, arith, refl}
+use Rattle.std.proofs.Common.{◌≡◌, ◌∙◌, ◌+◌, ◌-◌, ◌<◌, ◌≤◌, ℕ, List, length, take, drop, sym, ap, ap₂, subst, arith, refl}
 use Rattle.std.specs.Prelude.{option_and_then}
 use Rattle.std.specs.List.{All}
 use Rattle.trees.specs.declared.op.Op.{Op}
@@ -11,7 +11,7 @@ use Rattle.trees.specs.declared.kind.PartKind.TheVariants as part
 use Rattle.rows.specs.declared.held.Held.{Held}
 use Rattle.rows.specs.declared.held.Held.TheVariants as held
 use Rattle.rows.specs.Held.{kind_held, kids_at}
-use Rattle.rows.proofs.HeldLaws.{MeansThere, means_there}
+use Rattle.rows.proofs.HeldLaws.{MeansThere, means_there, kids-there}
 use Rattle.rows.proofs.StoreLaws.{kind_there}
 use Rattle.rows.proofs.store.RowStoreReader.term.Goals as goal
 use Rattle.rows.proofs.store.RowStoreReader.term.Goals.{In-Make}
@@ -39,6 +39,15 @@ made_there c = let s = c.args.self.now in means_there s.rows.items s.kids.items 
 
 same_kids : (items kids : List ℕ) (at count n : ℕ) → items ≡ kids → count ≡ n → kids_at kids n at ≡ take (at + count - at) (drop at items)
 same_kids items kids at count n are is = let e : at + count - at ≡ n = omega arith in ap₂ (λ m zs. take m (drop at zs)) (sym e) (sym are)
+
+same_end : (items kids : List ℕ) (at count n : ℕ) → items ≡ kids → count ≡ n → at + n ≤ length kids → at + count ≤ length items
+same_end items kids at count n are is le = rw (are, is) le
+
+pub slice_bounds-result-end : goal.slice_bounds-result-end
+slice_bounds-result-end c =
+    let s = c.args.self.now in
+    let end = kids-there s.rows.items s.kids.items s.subs.items s.held c.args.id.0 c.in-Make.op c.in-Make.at c.in-Make.ensures in
+    same_end c.deref.result.now s.kids.items c.in-Make.at c.kid_count.result (kids_of c.in-Make.op) c.deref.ensures.value c.kid_count.ensures end
 
 pub returns-in-Make-clause-meaning : goal.returns-in-Make-clause-meaning
 returns-in-Make-clause-meaning c =
