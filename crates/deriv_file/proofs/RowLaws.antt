@@ -1,5 +1,5 @@
 -- Which rows the words of a line may be, by the first word.
-use Rattle.std.proofs.Common.{◌≡◌, ℕ, ◌≤◌, Bool, true, false, ◌&&◌, List, [], ◌∷◌, ◌++◌, length, map, drop, codes, refl, sym, ◌∙◌, ap, decimal}
+use Rattle.std.proofs.Common.{◌≡◌, ◌⊎◌, inl, inr, ℕ, ◌≤◌, Bool, true, false, ◌&&◌, List, [], ◌∷◌, ◌++◌, length, map, drop, codes, refl, sym, ◌∙◌, ap, decimal}
 use Rattle.std.specs.Str.{bytes_eq}
 use Rattle.std.proofs.lemmas.Bool.{false≢true}
 use Rattle.std.proofs.lemmas.List.{append-nil, drop_at, length-map}
@@ -8,7 +8,7 @@ use Rattle.theory.specs.RuleNames.{name_of as rule_name, kinds_of, premises_of}
 use Rattle.trees.specs.declared.op.Op.{Op}
 use Rattle.theory.specs.declared.rule.RuleName.{RuleName}
 use Rattle.deriv_file.specs.declared.row.Row.{Row}
-use Rattle.deriv_file.specs.declared.row.Row.TheVariants.{Header, Var, Make, Node, Root}
+use Rattle.deriv_file.specs.declared.row.Row.TheVariants.{Header, Var, Make, CtxNil, CtxVar, CtxName, CtxFace, Node, Root}
 use Rattle.trees.specs.declared.op.Op.TheVariants.{I0}
 use Rattle.deriv_file.specs.Spelling.{words_of, MayStand, newest}
 use Rattle.deriv_file.specs.Words.{BeginWith}
@@ -65,6 +65,21 @@ node_row version at words left name rule a b taken named part_count premise_coun
       record { spelt = sym (append-nil (map decimal premises)); counted = stands.2 ∙ ap premises_of same ∙ sym premise_count; earlier = stands.4 },
     )
 node_row version at words left name rule a b taken named part_count premise_count row e stands = absurd (false≢true (ap (start_with (codes "n" ∷ [])) (sym e)))
+
+-- a word that was taken, and the last
+pub two_words : (words left : List (List ℕ)) (kind first last : List ℕ) → words ≡ first ∷ left → left ≡ last ∷ [] → kind ∷ words ≡ kind ∷ first ∷ last ∷ []
+two_words words left kind first last taken rest = rw (taken, rest) refl
+
+-- the first word after that of contexts
+abbrev pub IsContextWord : List (List ℕ) → Type 0
+IsContextWord words = (words ≡ codes "nil" ∷ []) ⊎ (((more : List (List ℕ)) × (words ≡ codes "var" ∷ more)) ⊎ (((more : List (List ℕ)) × (words ≡ codes "name" ∷ more)) ⊎ ((more : List (List ℕ)) × (words ≡ codes "face" ∷ more))))
+
+pub context_row : (words : List (List ℕ)) (row : Row) → codes "c" ∷ words ≡ words_of row → IsContextWord words
+context_row words CtxNil e = inl cc
+context_row words (CtxVar ctx ty) e = inr (inl (map decimal (ctx ∷ ty ∷ []), cc))
+context_row words (CtxName ctx) e = inr (inr (inl (decimal ctx ∷ [], cc)))
+context_row words (CtxFace ctx face) e = inr (inr (inr (map decimal (ctx ∷ face ∷ []), cc)))
+context_row words row e = absurd (false≢true (ap (start_with (codes "c" ∷ [])) (sym e)))
 
 -- a root has its node
 pub root_row : (words : List (List ℕ)) (row : Row) → codes "r" ∷ words ≡ words_of row → (node : ℕ) × (row ≡ Root node) × (words ≡ decimal node ∷ [])

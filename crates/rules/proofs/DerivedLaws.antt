@@ -7,8 +7,9 @@ use Rattle.trees.specs.Things.{Thing, ATree, ASubst, AContext}
 use Rattle.rules.specs.declared.derived.Derived.{Derived}
 use Rattle.rules.specs.declared.derived.Derived.TheVariants.{Fill}
 use Rattle.rules.specs.declared.instruction.Instruction.{Instruction}
+use Rattle.rules.specs.declared.instruction.Instruction.TheVariants.{Call}
 use Rattle.rules.specs.DerivedTrees.{TreeOver, over_trees, arity_of, derived, derived_over, rank_of, rows_of}
-use Rattle.rules.specs.Run.{thing_of, rows_in, rank_in}
+use Rattle.rules.specs.Run.{thing_of, rows_for, rows_in, rank_in}
 use Rattle.rules.specs.Schemas.{fits, has_then, AtAllTrees, MakesTree, is_program, Makes}
 
 -- what holds at all trees holds where there are so many
@@ -62,3 +63,7 @@ derivation_of d place m =
     made (Some xs) some =
         let a = at_trees (arity_of d) (derived d) (λ ys t. thing_of (Some ys) place ≡ Some (ATree t)) (by_cases d place m).0 xs some in
         a.holds ∙ sym a.is
+
+-- a call makes the rows of its program
+pub rows-called : (d : Derived) (place : List Instruction) (instruction : Instruction) → Makes d place → instruction ≡ Call d → rows_in place ≡ rows_for instruction
+rows-called d place instruction m is = rw is (derivation_of d place m).rows

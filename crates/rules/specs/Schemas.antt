@@ -1,7 +1,7 @@
 -- What the programs of a rule say.
 use Rattle.std.specs.Prelude.{◌≡◌, ◌==◌, ◌&&◌, ◌||◌, not, Bool, true, ℕ, zero, suc}
 use Rattle.std.specs.Prelude.{nat_le, nat_lt, List}
-use Rattle.std.specs.Prelude.{[], ◌∷◌, Option, Some, None, map, length, option_and_then}
+use Rattle.std.specs.Prelude.{[], ◌∷◌, Option, Some, map, length, option_and_then}
 use Rattle.std.specs.List.{list_all, list_any}
 use Rattle.theory.specs.declared.rule.RuleName.{RuleName}
 use Rattle.theory.specs.declared.rule.RuleName.TheVariants.{Composition}

@@ -8,10 +8,10 @@ use Rattle.std.proofs.lemmas.List.{length-drop}
 use Rattle.trees.specs.Things.{meanings}
 use Rattle.trees.proofs.Meanings.{meanings-later, kept-kept}
 use Rattle.rules.specs.declared.instruction.Instruction.TheVariants.{Part}
-use Rattle.rules.specs.Run.{stepped, run, thing_of, rows_for, rank_for, rank_in}
+use Rattle.rules.specs.Run.{stepped, run, thing_of, rows_for, rows_in, rank_for, rank_in}
 use Rattle.rules.proofs.RunLaws.{run-place, run-drop, run-one, rows-one, rows-drop, left-one, left-few, shallow_of, rank-at}
 use Rattle.rules.proofs.ThenLaws.{then_fits_at}
-use Rattle.rules.proofs.DerivedLaws.{derivation_of}
+use Rattle.rules.proofs.DerivedLaws.{derivation_of, rows-called}
 use Rattle.rules.specs.DerivedTrees.{arity_of, derived_over}
 use Rattle.std.specs.Prelude.{option_and_then}
 use Rattle.rules.proofs.machine.+run.Goals as goal
@@ -136,6 +136,23 @@ follow-row_of-requires g t c =
     let makes : IsSome (thing_of (meanings f c.first-in-Call.result.now) c.derivation.result.now) = rw (h.makes _ whole) whole in
     let rank : 2 * rank_in c.derivation.result.now + 1 < 2 * rank_for c.args.instruction = rw c.in-Call.is (omega (arith, h.rank)) in
     λ κs l. (omega (arith, rank), (l, (h.fit, (live, (makes, λ then. absurd (h.plain then))))))
+
+pub follow-returns-in_err-row-in-Call-clause-covered : goal.follow-returns-in_err-row-in-Call-clause-covered
+follow-returns-in_err-row-in-Call-clause-covered g t c enough =
+    let rows = rows-called c.in-Call.derived c.derivation.result.now c.args.instruction c.derivation.ensures c.in-Call.is in
+    let room : rows_in c.derivation.result.now ≤ g.M.Maker.spare c.args.maker.now = omega (arith, rows, enough) in
+    let no = c.in_err-row-in-Call.ensures.covered room in
+    cc
+
+pub follow-returns-in_err-row-in-Call-clause-spends : goal.follow-returns-in_err-row-in-Call-clause-spends
+follow-returns-in_err-row-in-Call-clause-spends g t c =
+    let rows = rows-called c.in-Call.derived c.derivation.result.now c.args.instruction c.derivation.ensures c.in-Call.is in
+    omega (arith, rows, c.row_of.ensures.spends)
+
+pub follow-returns-in_ok-row-in-Call-clause-spends : goal.follow-returns-in_ok-row-in-Call-clause-spends
+follow-returns-in_ok-row-in-Call-clause-spends g t c =
+    let rows = rows-called c.in-Call.derived c.derivation.result.now c.args.instruction c.derivation.ensures c.in-Call.is in
+    omega (arith, rows, c.row_of.ensures.spends)
 
 pub follow-remove-requires-in-Call : goal.follow-remove-requires-in-Call
 follow-remove-requires-in-Call g t c =
