@@ -77,6 +77,19 @@ other-form f o p x y l r other e =
     let same : a.0 ≡ b.0 = cc in
     other (a.2 ∙ ap form_of same ∙ sym b.2)
 
+-- a row of another form than a variable's, or a face's
+pub no-variable : (r : CtxRow) → ((h : CtxId) (b : TermId) → r ≡ row.Var h b → ⊥) → 1 ≡ form r → ⊥
+no-variable (row.Var h b) other e = other h b refl
+no-variable row.Nil other e = cc
+no-variable (row.Name h) other e = cc
+no-variable (row.Face h q) other e = cc
+
+pub no-face : (r : CtxRow) → ((h : CtxId) (q : TermId) → r ≡ row.Face h q → ⊥) → 3 ≡ form r → ⊥
+no-face (row.Face h q) other e = other h q refl
+no-face row.Nil other e = cc
+no-face (row.Var h b) other e = cc
+no-face (row.Name h) other e = cc
+
 pub next-variable : (f : Meanings) (l r : ℕ) (g h : CtxId) (a b : TermId) → Parts f (f l) (row.Var g a) → Parts f (f r) (row.Var h b) → g.0 < l → NextTrees f l r g.0 h.0 a.0 b.0
 next-variable f l r g h a b (IsVar _ _ G A eg ea e) (IsVar _ _ H B eh eb d) lt = record {
   next = record {

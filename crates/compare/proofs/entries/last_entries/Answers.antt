@@ -1,5 +1,5 @@
-use Rattle.std.proofs.Common.{arith}
-use Rattle.compare.proofs.ContextLaws.{Parts, parts, parts-as, both-nil, next-variable, next-name, next-face}
+use Rattle.std.proofs.Common.{◌∙◌, sym, ap, arith}
+use Rattle.compare.proofs.ContextLaws.{Parts, parts, parts-as, form, other-form, no-variable, no-face, both-nil, next-variable, next-name, next-face}
 use Rattle.compare.proofs.entries.last_entries.Given as given
 use Rattle.compare.proofs.entries.last_entries.Goals as goal
 use Rattle.compare.proofs.entries.last_entries.Goals.{After-context-2}
@@ -42,3 +42,17 @@ returns-in-Name-Name g c =
     let l = parts-as f (f c.args.left.0) c.context.result _ c.in-Name-Name.is-0 (left g here) in
     let r = parts-as f (f c.args.right.0) c.context-2.result _ c.in-Name-Name.is-1 (right g here) in
     next-name f c.args.left.0 c.args.right.0 c.in-Name-Name.g c.in-Name-Name.h l r (rw c.in-Name-Name.is-0 at c.context.ensures.earlier 0 0 (omega arith))
+
+pub returns-in_default-2 : goal.returns-in_default-2
+returns-in_default-2 g c =
+    let f = g.R.Rows.means c.args.rows.now in
+    let here = (goal.at.returns-in_default-2 g c).After-context-2 in
+    other-form f (f c.args.left.0) (f c.args.right.0) c.context.result c.context-2.result (left g here) (right g here)
+    (λ same. no-variable c.context-2.result c.in_default.not-Var-1 (sym (ap form c.in_default.is-0) ∙ same))
+
+pub returns-in_default-3 : goal.returns-in_default-3
+returns-in_default-3 g c =
+    let f = g.R.Rows.means c.args.rows.now in
+    let here = (goal.at.returns-in_default-3 g c).After-context-2 in
+    other-form f (f c.args.left.0) (f c.args.right.0) c.context.result c.context-2.result (left g here) (right g here)
+    (λ same. no-face c.context-2.result c.in_default.not-Face-1 (sym (ap form c.in_default.is-0) ∙ same))
