@@ -2,7 +2,7 @@
 use Rattle.std.proofs.Common.{◌≡◌, ℕ, [], ◌∷◌, Some, IsSome, refl, sym, ap, ◌∙◌, subst}
 use Rattle.std.specs.Prelude.{option_and_then}
 use Rattle.trees.specs.declared.op.Op.TheVariants as op
-use Rattle.trees.specs.Things.{Meanings, Kept, ASubst, both, instance_of, meanings, made}
+use Rattle.trees.specs.Things.{Meanings, Kept, ATree, ASubst, both, instance_of, pushed_on, meanings, made}
 use Rattle.trees.specs.Trees.{Tree, Subst, Var, apply, push, up, shift_by}
 use Rattle.trees.specs.Judgements.{trees}
 use Rattle.substitution.specs.Forms.{lift}
@@ -12,7 +12,7 @@ use Rattle.translation.specs.Terms.{lifted, lifted_line, min, plam, comp, sys, j
 use Rattle.translation.specs.Systems.{along, filling}
 use Rattle.rows.specs.Views.{IsTree}
 use Rattle.form_rows.specs.Meant.{Is, Are}
-use Rattle.form_rows.proofs.RowLaws.{are_one, are_four, is_kept, is_made, is_of, kept_then, may_make}
+use Rattle.form_rows.proofs.RowLaws.{are_one, are_two, are_four, is_kept, is_made, is_of, kept_then, may_make}
 use Rattle.form_rows.specs.Fillings.{slanted, filled, filled_cover, filled_body}
 
 abbrev here : Tree
@@ -40,6 +40,16 @@ filling_is A p b a =
     ∙ ap (λ x. whole (apply A slanted) (filled_cover p) (lifted (lifted p)) x (lifted (lifted a)) (lifted a)) (slanted_line b)
     ∙ ap (λ x. whole (apply A slanted) (filled_cover p) x (apply b slanted) (lifted (lifted a)) (lifted a)) (lifted_twice p)
     ∙ ap (λ x. whole (apply A slanted) (filled_cover p) (apply p (shift_by 2)) (apply b slanted) x (lifted a)) (lifted_twice a))
+
+-- the substitution of a filling, made of its parts
+pub is_slanted : {f g h i : Meanings} {outer inner least past : ℕ} → Kept f g → Kept h i → f outer ≡ Some (ATree (Var 1)) → g inner ≡ Some (ATree (Var 0))
+    → h least ≡ option_and_then (made op.Min) (meanings g (outer ∷ inner ∷ [])) → i past ≡ Some (ASubst (shift_by 2))
+    → both pushed_on (i past) (i least) ≡ Some (ASubst slanted)
+is_slanted {f} {g} {outer = outer} {inner = inner} first second outer_is inner_is least_is past_is =
+    let outer' : Is f outer (Var 1) = record { is = outer_is } in
+    let inner' : Is g inner (Var 0) = record { is = inner_is } in
+    let least' = is_kept second (is_made op.Min refl (are_two (is_kept first outer') inner') least_is) in
+    rw (past_is, least'.is) refl
 
 -- an instance of a tree
 pub is_instance : {f g : Meanings} {a d r : ℕ} {t : Tree} {s : Subst} → Is f a t → f d ≡ Some (ASubst s) → g r ≡ both instance_of (f a) (f d) → Is g r (apply t s)

@@ -15,6 +15,9 @@ instance-requires-2 g c =
 pub filled-requires-clause-face : goal.filled-requires-clause-face
 filled-requires-clause-face g c = tree_kept (g.M.Rows.means c.args.maker.now) (g.M.Rows.means c.instance-2.new.self) c.args.cover (kept_then c.slant.ensures.kept (kept_then c.instance.ensures.kept c.instance-2.ensures.kept)) c.requires.cover
 
+pub filled-requires-clause-base : goal.filled-requires-clause-base
+filled-requires-clause-base g c = tree_kept (g.M.Rows.means c.args.maker.now) (g.M.Rows.means c.instance-2.new.self) c.args.base (kept_then c.slant.ensures.kept (kept_then c.instance.ensures.kept c.instance-2.ensures.kept)) c.requires.base
+
 pub filled-requires-clause-line : goal.filled-requires-clause-line
 filled-requires-clause-line g c =
     let start = g.M.Rows.means c.args.maker.now in
