@@ -54,6 +54,14 @@ pub root_filed : (before : List Meaning) → 0 < length before → (node : ℕ) 
 root_filed before some node None live e = cc
 root_filed before some node (Some J) live e = (Nothing, root_right before some node J e, refl)
 
+-- what is no thing is no right row
+pub thing_wrong : (before : List Meaning) → 0 < length before → (row : Row) → ((rule : RuleName) (parts premises : List ℕ) → row ≡ Node rule parts premises → ⊥) → ((node : ℕ) → row ≡ Root node → ⊥) → thing_made (thing_at before) row ≡ None → (m : Meaning) → RightRow before row m → ⊥
+thing_wrong [] some row node root none m r = absurd (omega arith)
+thing_wrong (b ∷ before) some (Header version) node root none m r = absurd r
+thing_wrong (b ∷ before) some (Node rule parts premises) node root none m r = node rule parts premises refl
+thing_wrong (b ∷ before) some (Root n) node root none m r = root n refl
+thing_wrong (b ∷ before) some row node root none m r = let h : None ≡ Some r.0 = sym none ∙ r.1 in cc
+
 pub node_right : (before : List Meaning) → 0 < length before → (rule : RuleName) (parts premises : List ℕ) (J : Judgement) → RightNode before rule parts premises J → RightRow before (Node rule parts premises) (Concludes J)
 node_right [] some rule parts premises J r = absurd (omega arith)
 node_right (b ∷ before) some rule parts premises J r = (J, r, refl)

@@ -3,7 +3,7 @@ use Rattle.std.proofs.Common.{ap, Some}
 use Rattle.rows.specs.Shown.{things}
 use Rattle.derivation.specs.Meanings.{Concludes}
 use Rattle.replay.specs.Filed.{file_meanings}
-use Rattle.replay.proofs.RowLaws.{filed_thing, node_right, node_wrong, some_filed, not_empty}
+use Rattle.replay.proofs.RowLaws.{filed_thing, thing_wrong, node_right, node_wrong, some_filed, not_empty}
 use Rattle.replay.proofs.SideLaws.{keeps-grown}
 use Rattle.replay.proofs.row_judge.filed_of.Goals as goal
 
@@ -34,4 +34,15 @@ returns-in-Some-2 c =
       kept = c.thing_row.ensures.kept;
       keeps = keeps-grown c.args.sides.now xs (things c.thing_row.new.store) c.thing_row.ensures.kept c.requires.keeps;
       is = filed_thing xs es (not_empty es _ c.if-is_empty.false c.is_empty.ensures) (things c.thing_row.new.store) c.args.row.now c.in-Some-2.at made;
+    }
+
+pub returns-in-None-2 : goal.returns-in-None-2
+returns-in-None-2 c =
+    let xs = things c.args.store.now in
+    let es = c.args.filed.now in
+    let none = rw c.in-None-2.is at c.in_ok-at-in_default-row.ensures.made in
+    record {
+      kept = c.thing_row.ensures.kept;
+      keeps = keeps-grown c.args.sides.now xs (things c.thing_row.new.store) c.thing_row.ensures.kept c.requires.keeps;
+      is = thing_wrong (file_meanings xs es) (some_filed xs es (not_empty es _ c.if-is_empty.false c.is_empty.ensures)) c.args.row.now c.in_default-row.not-Node c.in_default-row.not-Root none;
     }

@@ -1,9 +1,12 @@
-use Rattle.std.proofs.Common.{◌∙◌, refl, sym, ap, subst, length, arith}
-use Rattle.interned.specs.Shown.{rows_mean}
+use Rattle.std.proofs.Common.{◌≤◌, ◌+◌, ◌∙◌, refl, sym, ap, subst, length, arith}
+use Rattle.interned.specs.Shown.{rows_mean, rows_spare}
+use Rattle.rules.specs.Schemas.{most_rows}
+use Rattle.book.specs.Contents.{Contents}
 use Rattle.book.specs.Right.{AreRight}
 use Rattle.book.specs.Shown.{book_means, book_concludes}
 use Rattle.book.proofs.NodeLaws.{few_cells, use-counts, nodes-kept, nodes-added}
 use Rattle.book.proofs.BookLaws.{right-concluded, extends-along, interned-grows, grows-equal}
+use Rattle.book.proofs.SpareLaws.{spare_of, some_rows, node-covered, spent_once}
 use Rattle.book.proofs.kernel.Book.conclude.Goals as goal
 
 pub invariant_of-self : goal.invariant_of-self
@@ -34,6 +37,22 @@ invariant_of-self-in_err-at c =
 
 pub returns-in_err-at-clause-extends : goal.returns-in_err-at-clause-extends
 returns-in_err-at-clause-extends c = extends-along _ _ _ c.self.view_is c.concluded.ensures.kept (grows-equal _ _ c.in_err-at.ensures.err)
+
+pub returns-in_err-at-clause-covered : goal.returns-in_err-at-clause-covered
+returns-in_err-at-clause-covered c enough =
+    let count = most_rows c.args.step.now.rule in
+    let spare = ap (λ (d : Contents). d.spare) c.self.view_is in
+    let here : count ≤ spare_of (rows_spare c.self.inside.rows) c.self.inside.nodes = omega (arith, spare, enough) in
+    let no = c.in_err-at.ensures.succeeds (node-covered (rows_spare c.self.inside.rows) count (length c.as_slice-2.result.now) c.self.inside.nodes (some_rows c.args.step.now.rule) here c.as_slice-2.ensures.few) in
+    cc
+
+pub returns-clause-spends : goal.returns-clause-spends
+returns-clause-spends c =
+    let rule = c.args.step.now.rule in
+    let left = rows_spare c.concluded.new.maker in
+    let spare = ap (λ (d : Contents). d.spare) c.self.view_is in
+    let spent = spent_once (rows_spare c.self.inside.rows) left (most_rows rule) (length c.as_slice-2.result.now) c.self.inside.nodes c.intern.new.self (some_rows rule) c.concluded.ensures.spends c.as_slice-2.ensures.few c.intern.ensures.spent in
+    subst (λ n. n ≤ spare_of left c.intern.new.self + most_rows rule) spare spent
 
 pub invariant_of-self-2 : goal.invariant_of-self-2
 invariant_of-self-2 c =
