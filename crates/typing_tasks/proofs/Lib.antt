@@ -1,3 +1,4 @@
 pub mod TypingRows
 pub mod OutcomeLaws
 pub mod SortLaws
+pub mod PlanLaws
