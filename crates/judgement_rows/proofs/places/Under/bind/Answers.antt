@@ -8,6 +8,11 @@ loop-name-init g c = binding_none _ _ _ c.requires.context
 pub lifted-requires : goal.lifted-requires
 lifted-requires g c = binding_tree c.requires.ty c.loop-name.invariant
 
+pub under_variable-requires-clause-context : goal.under_variable-requires-clause-context
+under_variable-requires-clause-context g c =
+    let here = c.loop-name.invariant.context in
+    (here.0, c.lifted.ensures.kept.keeps _ _ here.1)
+
 pub under_variable-requires-clause-ty : goal.under_variable-requires-clause-ty
 under_variable-requires-clause-ty g c =
     let tree = binding_tree c.requires.ty c.loop-name.invariant in

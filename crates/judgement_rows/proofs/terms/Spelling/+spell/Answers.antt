@@ -544,3 +544,98 @@ pub definition-returns-clause-defines : goal.definition-returns-clause-defines
 definition-returns-clause-defines g t c =
     on_ok c.define.result (definition_made c.args.def.now (rw c.deref.ensures.value at c.in_ok-under.ensures.spells) c.in_ok-ty.ensures.spells c.in_ok-body.ensures.spells c.define.ensures.kept)
     (rw c.deref-2.ensures.value at c.define.ensures.defines)
+
+-- what rows meant they go on to mean, call after call
+
+pub comp-returns-in_err-base-clause-kept : goal.comp-returns-in_err-base-clause-kept
+comp-returns-in_err-base-clause-kept g t c = kept_then c.line.ensures.kept c.code.ensures.kept
+
+pub comp-returns-in_err-system-clause-kept : goal.comp-returns-in_err-system-clause-kept
+comp-returns-in_err-system-clause-kept g t c = kept_then c.line.ensures.kept (kept_then c.code.ensures.kept c.line_sides.ensures.kept)
+
+pub comp-returns-in_err-make-clause-kept : goal.comp-returns-in_err-make-clause-kept
+comp-returns-in_err-make-clause-kept g t c = kept_then c.line.ensures.kept (kept_then c.code.ensures.kept (kept_then c.line_sides.ensures.kept c.make.ensures.kept))
+
+pub comp-returns-clause-kept : goal.comp-returns-clause-kept
+comp-returns-clause-kept g t c = kept_then c.line.ensures.kept (kept_then c.code.ensures.kept (kept_then c.line_sides.ensures.kept c.make.ensures.kept))
+
+pub fill-returns-in_err-base-clause-kept : goal.fill-returns-in_err-base-clause-kept
+fill-returns-in_err-base-clause-kept g t c = kept_then c.line.ensures.kept c.code.ensures.kept
+
+pub fill-returns-in_err-system-clause-kept : goal.fill-returns-in_err-system-clause-kept
+fill-returns-in_err-system-clause-kept g t c = kept_then c.line.ensures.kept (kept_then c.code.ensures.kept c.line_sides.ensures.kept)
+
+pub fill-returns-in_err-filling-clause-kept : goal.fill-returns-in_err-filling-clause-kept
+fill-returns-in_err-filling-clause-kept g t c = kept_then c.line.ensures.kept (kept_then c.code.ensures.kept (kept_then c.line_sides.ensures.kept c.filling.ensures.kept))
+
+pub fill-returns-clause-kept : goal.fill-returns-clause-kept
+fill-returns-clause-kept g t c = kept_then c.line.ensures.kept (kept_then c.code.ensures.kept (kept_then c.line_sides.ensures.kept c.filling.ensures.kept))
+
+pub glue_type-returns-in_err-make-clause-kept : goal.glue_type-returns-in_err-make-clause-kept
+glue_type-returns-in_err-make-clause-kept g t c = kept_then c.code.ensures.kept (kept_then c.pair_sides.ensures.kept c.make.ensures.kept)
+
+pub glue_type-returns-clause-kept : goal.glue_type-returns-clause-kept
+glue_type-returns-clause-kept g t c = kept_then c.code.ensures.kept (kept_then c.pair_sides.ensures.kept c.make.ensures.kept)
+
+pub glue_term-returns-in_err-make-clause-kept : goal.glue_term-returns-in_err-make-clause-kept
+glue_term-returns-in_err-make-clause-kept g t c = kept_then c.code.ensures.kept (kept_then c.sides.ensures.kept c.make.ensures.kept)
+
+pub glue_term-returns-clause-kept : goal.glue_term-returns-clause-kept
+glue_term-returns-clause-kept g t c = kept_then c.code.ensures.kept (kept_then c.sides.ensures.kept c.make.ensures.kept)
+
+pub unglue-returns-in_err-make-clause-kept : goal.unglue-returns-in_err-make-clause-kept
+unglue-returns-in_err-make-clause-kept g t c = kept_then c.code.ensures.kept (kept_then c.pair_sides.ensures.kept c.make.ensures.kept)
+
+pub unglue-returns-clause-kept : goal.unglue-returns-clause-kept
+unglue-returns-clause-kept g t c = kept_then c.code.ensures.kept (kept_then c.pair_sides.ensures.kept c.make.ensures.kept)
+
+pub pi-returns-in_err-nested-clause-kept : goal.pi-returns-in_err-nested-clause-kept
+pi-returns-in_err-nested-clause-kept g t c = kept_then c.under.ensures.kept (kept_then c.code.ensures.kept c.nested.ensures.kept)
+
+pub pi-returns-clause-kept : goal.pi-returns-clause-kept
+pi-returns-clause-kept g t c = kept_then c.under.ensures.kept (kept_then c.code.ensures.kept c.nested.ensures.kept)
+
+pub sigma-returns-in_err-nested-clause-kept : goal.sigma-returns-in_err-nested-clause-kept
+sigma-returns-in_err-nested-clause-kept g t c = kept_then c.under.ensures.kept (kept_then c.code.ensures.kept c.nested.ensures.kept)
+
+pub sigma-returns-clause-kept : goal.sigma-returns-clause-kept
+sigma-returns-clause-kept g t c = kept_then c.under.ensures.kept (kept_then c.code.ensures.kept c.nested.ensures.kept)
+
+pub lambda-returns-in_err-nested-clause-kept : goal.lambda-returns-in_err-nested-clause-kept
+lambda-returns-in_err-nested-clause-kept g t c = kept_then c.under.ensures.kept (kept_then c.code.ensures.kept c.nested.ensures.kept)
+
+pub lambda-returns-clause-kept : goal.lambda-returns-clause-kept
+lambda-returns-clause-kept g t c = kept_then c.under.ensures.kept (kept_then c.code.ensures.kept c.nested.ensures.kept)
+
+pub natrec-returns-in_err-base-clause-kept : goal.natrec-returns-in_err-base-clause-kept
+natrec-returns-in_err-base-clause-kept g t c = kept_then c.motive.ensures.kept c.code.ensures.kept
+
+pub natrec-returns-in_err-step-clause-kept : goal.natrec-returns-in_err-step-clause-kept
+natrec-returns-in_err-step-clause-kept g t c = kept_then c.motive.ensures.kept (kept_then c.code.ensures.kept c.code-2.ensures.kept)
+
+pub natrec-returns-in_err-argument-clause-kept : goal.natrec-returns-in_err-argument-clause-kept
+natrec-returns-in_err-argument-clause-kept g t c = kept_then c.motive.ensures.kept (kept_then c.code.ensures.kept (kept_then c.code-2.ensures.kept c.code-3.ensures.kept))
+
+pub natrec-returns-in_err-make-clause-kept : goal.natrec-returns-in_err-make-clause-kept
+natrec-returns-in_err-make-clause-kept g t c = kept_then c.motive.ensures.kept (kept_then c.code.ensures.kept (kept_then c.code-2.ensures.kept (kept_then c.code-3.ensures.kept c.make.ensures.kept)))
+
+pub path_type-returns-in_err-right-clause-kept : goal.path_type-returns-in_err-right-clause-kept
+path_type-returns-in_err-right-clause-kept g t c = kept_then c.line.ensures.kept (kept_then c.code.ensures.kept c.code-2.ensures.kept)
+
+pub path_type-returns-in_err-make-clause-kept : goal.path_type-returns-in_err-make-clause-kept
+path_type-returns-in_err-make-clause-kept g t c = kept_then c.line.ensures.kept (kept_then c.code.ensures.kept (kept_then c.code-2.ensures.kept c.make.ensures.kept))
+
+pub transport-returns-in_err-make-clause-kept : goal.transport-returns-in_err-make-clause-kept
+transport-returns-in_err-make-clause-kept g t c = kept_then c.line.ensures.kept (kept_then c.code.ensures.kept (kept_then c.make.ensures.kept (kept_then c.make-2.ensures.kept c.make-3.ensures.kept)))
+
+pub sides-returns-in_err-push-clause-kept : goal.sides-returns-in_err-push-clause-kept
+sides-returns-in_err-push-clause-kept g t c = kept_then c.loop-side.invariant.kept (kept_then c.under_equations.ensures.kept c.code.ensures.kept)
+
+pub line_sides-returns-in_err-push-clause-kept : goal.line_sides-returns-in_err-push-clause-kept
+line_sides-returns-in_err-push-clause-kept g t c = kept_then c.loop-side.invariant.kept (kept_then c.under_equations.ensures.kept c.line.ensures.kept)
+
+pub pair_sides-returns-in_err-equivalence-clause-kept : goal.pair_sides-returns-in_err-equivalence-clause-kept
+pair_sides-returns-in_err-equivalence-clause-kept g t c = kept_then c.loop-side.invariant.kept (kept_then c.under_equations.ensures.kept (kept_then c.code.ensures.kept c.code-in-loop-side.ensures.kept))
+
+pub pair_sides-returns-in_err-push-clause-kept : goal.pair_sides-returns-in_err-push-clause-kept
+pair_sides-returns-in_err-push-clause-kept g t c = kept_then c.loop-side.invariant.kept (kept_then c.under_equations.ensures.kept (kept_then c.code.ensures.kept c.code-in-loop-side.ensures.kept))
