@@ -11,3 +11,6 @@ returns-in_ok-take-in-Take-clause-steps c = begins c.args.book.now c.take.new.bo
 
 pub returns-in_ok-close_function-in-CloseFunction-clause-steps : goal.returns-in_ok-close_function-in-CloseFunction-clause-steps
 returns-in_ok-close_function-in-CloseFunction-clause-steps c = finished c.args.book.now c.close_function.new.book c.args.state.now c.close_function.new.self c.args.tasks.now _ _ _ (ap task.Binding c.in-CloseFunction.is) refl c.in_ok-close_function-in-CloseFunction.ensures.done
+
+pub returns-in_ok-over-in-Over-clause-steps : goal.returns-in_ok-over-in-Over-clause-steps
+returns-in_ok-over-in-Over-clause-steps c = begins c.args.book.now c.over.new.book c.args.state.now c.over.new.self c.args.tasks.now c.over.new.tasks _ _ _ (ap task.Binding c.in-Over.is) c.in_ok-over-in-Over.ensures.steps

@@ -20,3 +20,6 @@ returns-in_ok-close_path-in-ClosePath-clause-steps c = finished c.args.book.now 
 
 pub returns-in_ok-transport-in-Transport-clause-steps : goal.returns-in_ok-transport-in-Transport-clause-steps
 returns-in_ok-transport-in-Transport-clause-steps c = finished c.args.book.now c.transport.new.book c.args.state.now c.transport.new.self c.args.tasks.now _ _ _ (ap task.Lining c.in-Transport.is) refl c.in_ok-transport-in-Transport.ensures.done
+
+pub returns-in_ok-left_end-in-Left-clause-steps : goal.returns-in_ok-left_end-in-Left-clause-steps
+returns-in_ok-left_end-in-Left-clause-steps c = begins c.args.book.now c.left_end.new.book c.args.state.now c.left_end.new.self c.args.tasks.now c.left_end.new.tasks _ _ _ (ap task.Lining c.in-Left.is) c.in_ok-left_end-in-Left.ensures.steps

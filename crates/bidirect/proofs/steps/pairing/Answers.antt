@@ -14,3 +14,6 @@ returns-in_ok-pair-in-Pair-clause-steps c = finished c.args.book.now c.pair.new.
 
 pub returns-in_ok-close_name-in-CloseName-clause-steps : goal.returns-in_ok-close_name-in-CloseName-clause-steps
 returns-in_ok-close_name-in-CloseName-clause-steps c = finished c.args.book.now c.close_name.new.book c.args.state.now c.close_name.new.self c.args.tasks.now _ _ _ (ap task.Pairing c.in-CloseName.is) refl c.in_ok-close_name-in-CloseName.ensures.done
+
+pub returns-in_ok-names-in-Names-clause-steps : goal.returns-in_ok-names-in-Names-clause-steps
+returns-in_ok-names-in-Names-clause-steps c = begins c.args.book.now c.names.new.book c.args.state.now c.names.new.self c.args.tasks.now c.names.new.tasks _ _ _ (ap task.Pairing c.in-Names.is) c.in_ok-names-in-Names.ensures.steps
