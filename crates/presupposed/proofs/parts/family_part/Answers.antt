@@ -5,6 +5,11 @@ use Rattle.presupposed.specs.Parts.{FamilyHas}
 use Rattle.presupposed.proofs.PartLaws.{codomain_at, domain_at}
 use Rattle.presupposed.proofs.parts.family_part.Goals as goal
 
+pub node-requires : goal.node-requires
+node-requires c =
+    let (G, A, B, J, is, has) = c.requires in
+    (G, A, domain_at c.args.book.now c.args.family G A B is)
+
 pub node-requires-in-Codomain : goal.node-requires-in-Codomain
 node-requires-in-Codomain c =
     let (G, A, B, J, is, has) = c.requires in

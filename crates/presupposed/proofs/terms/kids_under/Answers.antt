@@ -7,6 +7,17 @@ use Rattle.literal_terms.specs.Forms.{IsFormed}
 use Rattle.presupposed.proofs.KidLaws.{paired_whole, type_stays}
 use Rattle.presupposed.proofs.terms.kids_under.Goals as goal
 
+pub function_under-requires : goal.function_under-requires
+function_under-requires c =
+    let (H, G, d, t, S, sub, formed) = c.requires in
+    (H, G, d, t, S, sub, subst (λ x. IsFormed c.args.book.now x G t S) c.in-Function.is formed)
+
+pub with_domain-requires : goal.with_domain-requires
+with_domain-requires c =
+    let (H, G, d, t, S, sub, formed) = c.requires in
+    let f = subst (λ x. IsFormed c.args.book.now x G t S) c.in-Pair.is formed in
+    (G, f.0, f.1, f.6)
+
 pub pair_under-requires : goal.pair_under-requires
 pair_under-requires c =
     let b = c.args.book.now in
