@@ -100,7 +100,7 @@ impl Rows {
     }
 
     /// Makes a row that fits, and answers its number. The only error is to be out of memory; then
-    /// the rows are as before.
+    /// all rows mean what they did.
     pub fn add(&mut self, row: rows::Row<'_>) -> Result<u64, AllocError>
         requires { IsFit (rows_mean self.old) row }
         ensures kept { Kept (rows_mean self.old) (rows_mean self.new) }

@@ -42,7 +42,7 @@ impl KnownRows {
         Ok(())
     }
 
-    /// Keeps the number that a row has, or is to have.
+    /// Keeps the number that a row has.
     pub fn keep(&mut self, row: Row<'_>, at: u64) -> Result<(), AllocError> {
         match self.numbers.insert(digest(row), at) {
             Ok(_) => Ok(()),

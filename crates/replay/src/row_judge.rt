@@ -181,8 +181,9 @@ impl RowJudge {
         match self.known.find(&self.store, row) {
             Some(at) => Ok(at),
             None => {
-                self.known.keep(row, self.store.len() as u64)?;
-                Ok(self.make_new(row)?)
+                let at = self.make_new(row)?;
+                self.known.keep(row, at)?;
+                Ok(at)
             }
         }
     }

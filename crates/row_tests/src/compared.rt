@@ -187,11 +187,11 @@ fn add_doublings(rt: &impl Abort, rows: &mut RowStore, row: u64) -> Result<u64, 
 
 #[test]
 fn shared_trees_are_compared_in_the_time_of_what_is_shared(rt: HostRuntime) -> Result<(), Fail> {
-    let table = [make(Op::Zero, &[]), make(Op::Zero, &[]), shift(1)];
+    let table = [make(Op::Zero, &[]), shift(1), instance(0, 1)];
     let mut rows = filled(&rt, rt.alloc(), &table)?;
     let left = add_doublings(&rt, &mut rows, 0)?;
-    let right = add_doublings(&rt, &mut rows, 1)?;
-    let raised = add(&rt, &mut rows, instance(right, 2))?;
+    let right = add_doublings(&rt, &mut rows, 2)?;
+    let raised = add(&rt, &mut rows, instance(right, 1))?;
     let cases: [SameCase; 3] = [
         (PartKind::Term, (left, right), true),
         (PartKind::Term, (left, raised), true),
@@ -235,43 +235,44 @@ fn assert_all_same_claims(
 #[test]
 fn claims_are_compared_place_by_place(rt: HostRuntime) -> Result<(), Fail> {
     let table = [
-        // 0 to 3: the empty context, and one more, twice
-        Row::Context(CtxRow::Nil),
-        with_name(0),
-        with_name(0),
-        with_name(1),
-        // 4 to 8: zero, an instance of it, and a variable; a shift and another
+        // 0 to 2: zero, a shift, and zero under it
         make(Op::Zero, &[]),
         shift(1),
-        instance(4, 5),
+        instance(0, 1),
+        // 3 to 6: the empty context, one with a variable, spelled twice, and one more
+        Row::Context(CtxRow::Nil),
+        with_var(3, 0),
+        with_var(3, 2),
+        with_name(4),
+        // 7 and 8: a variable and another shift
         var(0),
         shift(2),
     ];
-    // 1 and 2 are the same, and so are 4 and 6; in each form each place is another once
+    // 4 and 5 are the same, and so are 0 and 2; in each form each place is another once
     let cases = [
-        (Claim::Ctx(1), Claim::Ctx(2), true),
-        (Claim::Ctx(1), Claim::Ctx(3), false),
-        (Claim::Ty(1, 4), Claim::Ty(2, 6), true),
-        (Claim::Ty(1, 4), Claim::Ty(3, 6), false),
-        (Claim::Ty(1, 4), Claim::Ty(2, 7), false),
-        (Claim::TyEq(1, 4, 7), Claim::TyEq(2, 6, 7), true),
-        (Claim::TyEq(1, 4, 7), Claim::TyEq(3, 6, 7), false),
-        (Claim::TyEq(1, 4, 7), Claim::TyEq(2, 7, 7), false),
-        (Claim::TyEq(1, 4, 7), Claim::TyEq(2, 6, 6), false),
-        (Claim::Tm(1, 4, 7), Claim::Tm(2, 6, 7), true),
-        (Claim::Tm(1, 4, 7), Claim::Tm(3, 6, 7), false),
-        (Claim::Tm(1, 4, 7), Claim::Tm(2, 7, 7), false),
-        (Claim::Tm(1, 4, 7), Claim::Tm(2, 6, 4), false),
-        (Claim::Tm(1, 4, 7), Claim::TyEq(1, 4, 7), false),
-        (Claim::TmEq(1, 4, 7, 4), Claim::TmEq(2, 6, 7, 6), true),
-        (Claim::TmEq(1, 4, 7, 4), Claim::TmEq(3, 6, 7, 6), false),
-        (Claim::TmEq(1, 4, 7, 4), Claim::TmEq(2, 7, 7, 6), false),
-        (Claim::TmEq(1, 4, 7, 4), Claim::TmEq(2, 6, 4, 6), false),
-        (Claim::TmEq(1, 4, 7, 4), Claim::TmEq(2, 6, 7, 7), false),
-        (Claim::Sb(1, 5, 0), Claim::Sb(2, 5, 0), true),
-        (Claim::Sb(1, 5, 0), Claim::Sb(3, 5, 0), false),
-        (Claim::Sb(1, 5, 0), Claim::Sb(2, 8, 0), false),
-        (Claim::Sb(1, 5, 0), Claim::Sb(2, 5, 1), false),
+        (Claim::Ctx(4), Claim::Ctx(5), true),
+        (Claim::Ctx(4), Claim::Ctx(6), false),
+        (Claim::Ty(4, 0), Claim::Ty(5, 2), true),
+        (Claim::Ty(4, 0), Claim::Ty(6, 2), false),
+        (Claim::Ty(4, 0), Claim::Ty(5, 7), false),
+        (Claim::TyEq(4, 0, 7), Claim::TyEq(5, 2, 7), true),
+        (Claim::TyEq(4, 0, 7), Claim::TyEq(6, 2, 7), false),
+        (Claim::TyEq(4, 0, 7), Claim::TyEq(5, 7, 7), false),
+        (Claim::TyEq(4, 0, 7), Claim::TyEq(5, 2, 2), false),
+        (Claim::Tm(4, 0, 7), Claim::Tm(5, 2, 7), true),
+        (Claim::Tm(4, 0, 7), Claim::Tm(6, 2, 7), false),
+        (Claim::Tm(4, 0, 7), Claim::Tm(5, 7, 7), false),
+        (Claim::Tm(4, 0, 7), Claim::Tm(5, 2, 0), false),
+        (Claim::Tm(4, 0, 7), Claim::TyEq(4, 0, 7), false),
+        (Claim::TmEq(4, 0, 7, 0), Claim::TmEq(5, 2, 7, 2), true),
+        (Claim::TmEq(4, 0, 7, 0), Claim::TmEq(6, 2, 7, 2), false),
+        (Claim::TmEq(4, 0, 7, 0), Claim::TmEq(5, 7, 7, 2), false),
+        (Claim::TmEq(4, 0, 7, 0), Claim::TmEq(5, 2, 0, 2), false),
+        (Claim::TmEq(4, 0, 7, 0), Claim::TmEq(5, 2, 7, 7), false),
+        (Claim::Sb(4, 1, 3), Claim::Sb(5, 1, 3), true),
+        (Claim::Sb(4, 1, 3), Claim::Sb(6, 1, 3), false),
+        (Claim::Sb(4, 1, 3), Claim::Sb(5, 8, 3), false),
+        (Claim::Sb(4, 1, 3), Claim::Sb(5, 1, 4), false),
     ];
     let rows = filled(&rt, rt.alloc(), &table)?;
     assert_all_same_claims(&rt, rt.alloc(), &rows, &cases)

@@ -52,7 +52,7 @@ means-added rows kids subs rows' kids' subs' meaning at a place =
     ∙ sym a.is
 
 -- a row that holds nothing beside it
-alone-meaning : (f : Meanings) (kids : List ℕ) (subs : List HeldSub) (r : Held) → IsTrue (is_alone r) → held_meaning f kids subs r ≡ held_meaning f [] [] r
+pub alone-meaning : (f : Meanings) (kids : List ℕ) (subs : List HeldSub) (r : Held) → IsTrue (is_alone r) → held_meaning f kids subs r ≡ held_meaning f [] [] r
 alone-meaning f kids subs (held.Var k) alone = refl
 alone-meaning f kids subs (held.Make op at) alone = cc
 alone-meaning f kids subs (held.Instance t d) alone = refl
@@ -244,3 +244,16 @@ both-within xs i j some =
     let x = is_some-value (both then_of (slice_get xs i) (slice_get xs j)) some in
     let b = both-some then_of (slice_get xs i) (slice_get xs j) x.0 x.1 in
     (slice_get_within xs i b.first b.first_is, slice_get_within xs j b.second b.second_is)
+
+-- what has a shift is a substitution
+pub shift-subst : (most : ℕ) (o : Option Thing) → ShiftAtMost most o → IsSubst o
+shift-subst most (Some (ASubst d)) small = (d, refl)
+shift-subst most (Some (ATree t)) small = absurd small
+shift-subst most (Some (AContext G)) small = absurd small
+shift-subst most None small = absurd small
+
+pub shifts-follow : (most : ℕ) (o p : Option Thing) → ShiftAtMost most o → ShiftAtMost most p → IsSome (both then_of o p)
+shifts-follow most o p first second =
+    let d = shift-subst most o first in
+    let e = shift-subst most p second in
+    rw (d.1, e.1) cc

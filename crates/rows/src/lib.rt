@@ -18,6 +18,7 @@
 
 mod fits;
 mod held;
+mod recent;
 mod store;
 mod traits;
 mod views;

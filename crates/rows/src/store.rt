@@ -2,30 +2,35 @@
 
 ghost use Rattle.rows.specs.Held.{AreHeld};
 
-use crate::held::{Held, HeldSize, HeldSub};
+use crate::held::{Held, HeldSize, HeldSub, digest_of_make, digest_of_sub};
+use crate::recent::Recent;
 use crate::traits::{Maker, Reader, Rows};
 use crate::views::{CtxId, CtxRow, SubId, SubRow, SubSize, TermId, TermRow};
 use std::alloc::{AllocError, Global};
 use trees::{Op, PartKind, kid_count};
 
 /// Rows in memory, named by their numbers from 0. Contracts see the list of what they mean. A row
-/// takes 24 bytes, each kid of an operator 8 more, and a substitution 64 more. After out of memory
-/// the rows are as before.
+/// takes 24 bytes, each kid of an operator 8 more, and a substitution 64 more. One that is made
+/// anew while it is among those made of late is found and takes none: rules make the same small
+/// trees again and again. After out of memory the rows are as before.
 #[derive(Drop)]
 pub struct RowStore {
     rows: Vec<Held>,
     kids: Vec<u64>,
     subs: Vec<HeldSub>,
+    recent: Recent,
     ghost held: { AreHeld rows.items kids.items subs.items },
 }
 
 impl RowStore {
     ghost use Rattle.std.specs.Prelude.{◌≡◌, ◌↔◌, ◌<◌, ◌-◌, [], length, take, option_map};
-    ghost use Rattle.std.specs.Prelude.{option_and_then, slice_get, IfOk, OnErr, IsSome, IsTrue};
+    ghost use Rattle.std.specs.Prelude.{option_and_then, slice_get, IfOk, IfSome, OnErr, IsSome, IsTrue};
     ghost use Rattle.std.specs.Prelude.{Some};
     ghost use Rattle.std.specs.List.{All};
-    ghost use Rattle.trees.specs.Things.{Kept, kind_of, made, meanings};
-    ghost use Rattle.rows.specs.Views.{IsSubst, IsOfKind, sub_meaning, sub_names};
+    ghost use Rattle.trees.specs.Trees.{greatest_shift};
+    ghost use Rattle.trees.specs.Things.{Kept, both, kind_of, made, meanings, then_of};
+    ghost use Rattle.rows.specs.Views.{IsSubst, IsOfKind, IsSubFit, ShiftAtMost, sub_meaning};
+    ghost use Rattle.rows.specs.Views.{sub_names};
     ghost use Rattle.rows.specs.Held.{held_meaning, is_alone, IsSizeAt};
     ghost use Rattle.rows.specs.Shown.{things, store_means};
 
@@ -37,6 +42,7 @@ impl RowStore {
             rows: Vec::new(alloc),
             kids: Vec::new(alloc),
             subs: Vec::new(alloc),
+            recent: Recent::new(alloc),
         }
     }
 
@@ -48,6 +54,7 @@ impl RowStore {
     }
 
     /// What kind of thing a row means.
+    #[inline(always)]
     pub fn kind(&self, row: u64) -> PartKind
         requires { row < length (things self.now) }
         ensures { option_map kind_of (slice_get (things self.now) row) ≡ Some result }
@@ -56,6 +63,7 @@ impl RowStore {
     }
 
     /// Whether there is a row of this number that means a thing of this kind.
+    #[inline(always)]
     pub fn is_of_kind(&self, row: u64, kind: PartKind) -> bool
         ensures { IsTrue result ↔ IsOfKind kind (slice_get (things self.now) row) }
     {
@@ -85,6 +93,7 @@ impl RowStore {
     }
 
     /// The row of that number.
+    #[inline(always)]
     fn row(&self, at: u64) -> Held
         requires { at < length (things self.now) }
         ensures { slice_get self.now.rows.items at ≡ Some result }
@@ -93,6 +102,7 @@ impl RowStore {
     }
 
     /// The substitution of a row.
+    #[inline(always)]
     fn sub(&self, id: SubId) -> HeldSub
         requires { IsSubst (store_means self.now id.0) }
         ensures meaning { store_means self.now id.0 ≡
@@ -104,6 +114,149 @@ impl RowStore {
             Held::Subst(at) => self.subs[at],
             _ => unreachable!(),
         }
+    }
+
+    /// Whether the row of that number is held as this one.
+    #[inline(always)]
+    fn is_held_at(&self, at: u64, row: Held) -> bool
+        ensures { IsTrue result → slice_get self.now.rows.items at ≡ Some row }
+    {
+        at < self.len() as u64 && self.row(at) == row
+    }
+
+    /// Whether the row of that number is this substitution.
+    #[inline(always)]
+    fn is_sub_at(&self, at: u64, row: SubRow) -> bool
+        ensures { let f = store_means self.now in IsTrue result → f at ≡ sub_meaning f row }
+    {
+        self.is_of_kind(at, PartKind::Subst) && self.sub(SubId(at)).row == row
+    }
+
+    /// Whether the row of that number is this operator over the rows of its kids.
+    #[inline(always)]
+    fn is_make_at(&self, at: u64, op: Op, kids: &[u64]) -> bool
+        ensures { let f = store_means self.now in IsTrue result →
+            f at ≡ option_and_then (made op) (meanings f kids.now) }
+    {
+        if !self.is_of_kind(at, PartKind::Term) {
+            return false;
+        }
+        match self.term(TermId(at)) {
+            TermRow::Make(with, others) => with == op && others == kids,
+            _ => false,
+        }
+    }
+
+    /// The row that was made last of those in the place of a digest, where it is this one.
+    #[inline(always)]
+    fn recent_alone(&self, digest: u64, row: Held) -> Option<u64>
+        requires { IsTrue (is_alone row) }
+        ensures { let f = store_means self.now in
+            IfSome result (λ at. f at ≡ held_meaning f [] [] row) }
+    {
+        let at = self.recent.at(digest)?;
+        if self.is_held_at(at, row) {
+            Some(at)
+        } else {
+            None
+        }
+    }
+
+    /// The same of a substitution.
+    #[inline(always)]
+    fn recent_sub(&self, digest: u64, row: SubRow) -> Option<u64>
+        ensures { let f = store_means self.now in IfSome result (λ at. f at ≡ sub_meaning f row) }
+    {
+        let at = self.recent.at(digest)?;
+        if self.is_sub_at(at, row) {
+            Some(at)
+        } else {
+            None
+        }
+    }
+
+    /// The same of an operator over the rows of its kids.
+    #[inline(always)]
+    fn recent_make(&self, digest: u64, op: Op, kids: &[u64]) -> Option<u64>
+        ensures { let f = store_means self.now in
+            IfSome result (λ at. f at ≡ option_and_then (made op) (meanings f kids.now)) }
+    {
+        let at = self.recent.at(digest)?;
+        if self.is_make_at(at, op, kids) {
+            Some(at)
+        } else {
+            None
+        }
+    }
+
+    /// Has the newest row of a digest found again.
+    #[inline(always)]
+    fn remember(&mut self, digest: u64, at: u64)
+        ensures { things self.new ≡ things self.old }
+    {
+        self.recent.put(digest, at);
+    }
+
+    /// A row that holds nothing beside it: one that was made of late, or a new one.
+    fn alone(&mut self, row: Held) -> Result<u64, AllocError>
+        requires alone { IsTrue (is_alone row) }
+        requires means { IsSome (held_meaning (store_means self.old) [] [] row) }
+        ensures kept { Kept (store_means self.old) (store_means self.new) }
+        ensures meaning { IfOk result
+            (λ at. store_means self.new at ≡ held_meaning (store_means self.old) [] [] row) }
+    {
+        let digest = row.digest();
+        match self.recent_alone(digest, row) {
+            Some(at) => Ok(at),
+            None => {
+                let at = self.add_alone(row)?;
+                self.remember(digest, at);
+                Ok(at)
+            }
+        }
+    }
+
+    /// The row of a substitution: one that was made of late, or a new one.
+    fn sub_of(&mut self, row: SubRow) -> Result<u64, AllocError>
+        requires { IsSubFit (store_means self.old) row }
+        ensures kept { Kept (store_means self.old) (store_means self.new) }
+        ensures meaning { IfOk result
+            (λ at. store_means self.new at ≡ sub_meaning (store_means self.old) row) }
+    {
+        let digest = digest_of_sub(row);
+        match self.recent_sub(digest, row) {
+            Some(at) => Ok(at),
+            None => {
+                let size = self.size_of(row);
+                let at = self.add_sub(row, size)?;
+                self.remember(digest, at);
+                Ok(at)
+            }
+        }
+    }
+
+    /// The size of a substitution that fits.
+    fn size_of(&self, row: SubRow) -> HeldSize
+        requires { IsSubFit (store_means self.now) row }
+        ensures { IsSizeAt (length (things self.now)) (sub_meaning (store_means self.now) row)
+            result }
+    {
+        match row {
+            SubRow::Shift(by) => HeldSize::of_shift(by),
+            SubRow::Push(sub, _) => self.sub(sub).size.with_tree(),
+            SubRow::Then(first, second) => self.size_of_then(first.0, second.0),
+        }
+    }
+
+    /// The size of the first substitution, then the second.
+    fn size_of_then(&self, first: u64, second: u64) -> HeldSize
+        requires first { ShiftAtMost greatest_shift (store_means self.now first) }
+        requires second { ShiftAtMost greatest_shift (store_means self.now second) }
+        ensures { IsSizeAt (length (things self.now))
+            (both then_of (store_means self.now first) (store_means self.now second)) result }
+    {
+        let size = self.sub(SubId(first)).size;
+        size.then(self.sub(SubId(second)).size)
     }
 
     /// A new row that holds nothing beside it.
@@ -173,46 +326,51 @@ impl Maker for RowStore {
     ghost spare = { λ s. 0 };
 
     fn var(&mut self, index: u32) -> Result<u64, AllocError> {
-        Ok(self.add_alone(Held::Var(index))?)
+        Ok(self.alone(Held::Var(index))?)
     }
 
     fn make(&mut self, op: Op, kids: &[u64]) -> Result<u64, AllocError> {
-        Ok(self.add_make(op, kids)?)
+        let digest = digest_of_make(op, kids);
+        match self.recent_make(digest, op, kids) {
+            Some(at) => Ok(at),
+            None => {
+                let at = self.add_make(op, kids)?;
+                self.remember(digest, at);
+                Ok(at)
+            }
+        }
     }
 
     fn instance(&mut self, term: u64, sub: u64) -> Result<u64, AllocError> {
-        Ok(self.add_alone(Held::Instance(TermId(term), SubId(sub)))?)
+        Ok(self.alone(Held::Instance(TermId(term), SubId(sub)))?)
     }
 
     fn shift(&mut self, by: u64) -> Result<u64, AllocError> {
-        Ok(self.add_sub(SubRow::Shift(by), HeldSize::of_shift(by))?)
+        Ok(self.sub_of(SubRow::Shift(by))?)
     }
 
     fn push(&mut self, sub: u64, term: u64) -> Result<u64, AllocError> {
-        let size = self.sub(SubId(sub)).size.with_tree();
-        Ok(self.add_sub(SubRow::Push(SubId(sub), TermId(term)), size)?)
+        Ok(self.sub_of(SubRow::Push(SubId(sub), TermId(term)))?)
     }
 
     fn then(&mut self, first: u64, second: u64) -> Result<u64, AllocError> {
-        let size = self.sub(SubId(first)).size;
-        let size = size.then(self.sub(SubId(second)).size);
-        Ok(self.add_sub(SubRow::Then(SubId(first), SubId(second)), size)?)
+        Ok(self.sub_of(SubRow::Then(SubId(first), SubId(second)))?)
     }
 
     fn ctx_nil(&mut self) -> Result<u64, AllocError> {
-        Ok(self.add_alone(Held::CtxNil)?)
+        Ok(self.alone(Held::CtxNil)?)
     }
 
     fn ctx_var(&mut self, ctx: u64, ty: u64) -> Result<u64, AllocError> {
-        Ok(self.add_alone(Held::CtxVar(CtxId(ctx), TermId(ty)))?)
+        Ok(self.alone(Held::CtxVar(CtxId(ctx), TermId(ty)))?)
     }
 
     fn ctx_name(&mut self, ctx: u64) -> Result<u64, AllocError> {
-        Ok(self.add_alone(Held::CtxName(CtxId(ctx)))?)
+        Ok(self.alone(Held::CtxName(CtxId(ctx)))?)
     }
 
     fn ctx_face(&mut self, ctx: u64, face: u64) -> Result<u64, AllocError> {
-        Ok(self.add_alone(Held::CtxFace(CtxId(ctx), TermId(face)))?)
+        Ok(self.alone(Held::CtxFace(CtxId(ctx), TermId(face)))?)
     }
 }
 

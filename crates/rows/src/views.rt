@@ -38,7 +38,7 @@ pub enum TermRow<'a> {
 
 /// A row of a substitution. Faces leave it as it is: `d : H.p to G`, where `d : H to G` and p is a
 /// face over H; `d : H to G.p`, where `d : H to G`, p is a face over G and `p[d]` holds in H.
-#[derive(Clone, Copy, Debug)]
+#[derive(Clone, Copy, Debug, PartialEq, Eq)]
 pub enum SubRow {
     /// The shift by so many: `shift 0 : G to G`, where `ctx G`; `shift (n + 1) : H.A to G`, where
     /// `shift n : H to G` and `H >> A`, and so for a name, `H.I`.

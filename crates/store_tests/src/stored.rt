@@ -46,7 +46,19 @@ fn assert_read(rt: &impl Abort, rows: &RowStore) {
     assert_eq!(rt; rows.kind(3), PartKind::Subst);
 }
 
-/// Leaves the first row alone, and asserts that another stands in the place of one that is gone.
+/// Asserts that rows that are made again are the ones that stand.
+fn assert_found(rt: &impl Abort, rows: &mut RowStore, table: &[Row<'_>]) -> Result<(), Fail> {
+    let count = rows.len();
+    for (at, row) in table.iter().enumerate() {
+        let found = add(rt, rows, *row)?;
+        assert_eq!(rt; found, at as u64);
+    }
+    assert_eq!(rt; rows.len(), count);
+    Ok(())
+}
+
+/// Leaves the first row alone, and asserts that another stands in the place of one that is gone,
+/// which is made anew.
 fn assert_cut_back(rt: &impl Abort, rows: &mut RowStore) -> Result<(), Fail> {
     rows.truncate(1);
     assert!(rt; rows.len() == 1 && !rows.is_of_kind(1, PartKind::Term));
@@ -54,6 +66,8 @@ fn assert_cut_back(rt: &impl Abort, rows: &mut RowStore) -> Result<(), Fail> {
     assert_eq!(rt; other, 1);
     assert!(rt; rows.is_term(TermId(1)));
     assert!(rt; matches!(rows.term(TermId(1)), TermRow::Make(Op::Suc, &[0])));
+    let gone = add(rt, rows, Row::Term(TermRow::Make(Op::Lam, &[0, 0])))?;
+    assert_eq!(rt; gone, 2);
     Ok(())
 }
 
@@ -69,6 +83,7 @@ fn rows_are_read_as_they_were_made(rt: HostRuntime) -> Result<(), Fail> {
     ];
     let mut rows = filled(&rt, rt.alloc(), &table)?;
     assert_read(&rt, &rows);
+    assert_found(&rt, &mut rows, &table)?;
     assert_cut_back(&rt, &mut rows)
 }
 
