@@ -52,7 +52,7 @@ means-added rows kids subs rows' kids' subs' meaning at a place =
     ∙ sym a.is
 
 -- a row that holds nothing beside it
-pub alone-meaning : (f : Meanings) (kids : List ℕ) (subs : List HeldSub) (r : Held) → IsTrue (is_alone r) → held_meaning f kids subs r ≡ held_meaning f [] [] r
+alone-meaning : (f : Meanings) (kids : List ℕ) (subs : List HeldSub) (r : Held) → IsTrue (is_alone r) → held_meaning f kids subs r ≡ held_meaning f [] [] r
 alone-meaning f kids subs (held.Var k) alone = refl
 alone-meaning f kids subs (held.Make op at) alone = cc
 alone-meaning f kids subs (held.Instance t d) alone = refl

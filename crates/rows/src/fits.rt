@@ -9,9 +9,8 @@ ghost use Rattle.rows.specs.Views.{term_meaning, ctx_meaning, row_meaning};
 ghost use Rattle.rows.specs.Shown.{store_means};
 
 use crate::store::RowStore;
-use crate::traits::{Maker, Reader};
+use crate::traits::Reader;
 use crate::views::{CtxId, CtxRow, Row, SubId, SubRow, TermId, TermRow};
-use std::alloc::AllocError;
 use trees::{Op, PartKind, kid_count};
 
 /// The greatest shift of a substitution that is made, and that `then` takes:
@@ -28,27 +27,6 @@ impl RowStore {
             Row::Term(row) => self.fits_term(row),
             Row::Subst(row) => self.fits_subst(row),
             Row::Context(row) => self.fits_context(row),
-        }
-    }
-
-    /// Makes a row that fits.
-    pub fn add(&mut self, row: Row<'_>) -> Result<u64, AllocError>
-        requires { IsFit (store_means self.old) row }
-        ensures kept { Kept (store_means self.old) (store_means self.new) }
-        ensures meaning { IfOk result (λ at.
-            store_means self.new at ≡ row_meaning (store_means self.old) row.entry) }
-    {
-        match row {
-            Row::Term(TermRow::Var(index)) => Ok(self.var(index)?),
-            Row::Term(TermRow::Make(op, kids)) => Ok(self.make(op, kids)?),
-            Row::Term(TermRow::Instance(term, sub)) => Ok(self.instance(term.0, sub.0)?),
-            Row::Subst(SubRow::Shift(by)) => Ok(self.shift(by)?),
-            Row::Subst(SubRow::Push(sub, term)) => Ok(self.push(sub.0, term.0)?),
-            Row::Subst(SubRow::Then(first, second)) => Ok(self.then(first.0, second.0)?),
-            Row::Context(CtxRow::Nil) => Ok(self.ctx_nil()?),
-            Row::Context(CtxRow::Var(ctx, ty)) => Ok(self.ctx_var(ctx.0, ty.0)?),
-            Row::Context(CtxRow::Name(ctx)) => Ok(self.ctx_name(ctx.0)?),
-            Row::Context(CtxRow::Face(ctx, face)) => Ok(self.ctx_face(ctx.0, face.0)?),
         }
     }
 

@@ -3,7 +3,6 @@
 ghost use Rattle.std.specs.Prelude.{◌≤◌};
 ghost use Rattle.rows.specs.Counts.{most_counted};
 
-use crate::recent::mixed;
 use crate::views::{CtxId, SubId, SubRow, TermId};
 use trees::{Op, PartKind, kid_count};
 
@@ -11,7 +10,7 @@ use trees::{Op, PartKind, kid_count};
 pub const MOST_COUNTED: u128 = u128::MAX / 2;
 
 /// A row as it is held.
-#[derive(Clone, Copy, Debug, PartialEq, Eq)]
+#[derive(Clone, Copy, Debug)]
 pub enum Held {
     /// The variable of this index.
     Var(u32),
@@ -126,39 +125,4 @@ impl Held {
             _ => 0,
         }
     }
-
-    /// A number that rows which hold the same share, and others mostly do not.
-    #[inline(always)]
-    pub fn digest(self) -> u64 {
-        match self {
-            Held::Var(index) => mixed(0, u64::from(index)),
-            Held::Make(op, at) => mixed(mixed(1, u64::from(op as u8)), at as u64),
-            Held::Instance(term, sub) => mixed(mixed(2, term.0), sub.0),
-            Held::Subst(at) => mixed(3, at as u64),
-            Held::CtxNil => mixed(4, 0),
-            Held::CtxVar(ctx, ty) => mixed(mixed(5, ctx.0), ty.0),
-            Held::CtxName(ctx) => mixed(6, ctx.0),
-            Held::CtxFace(ctx, face) => mixed(mixed(7, ctx.0), face.0),
-        }
-    }
-}
-
-/// That of a substitution.
-#[inline(always)]
-pub fn digest_of_sub(row: SubRow) -> u64 {
-    match row {
-        SubRow::Shift(by) => mixed(8, by),
-        SubRow::Push(sub, term) => mixed(mixed(9, sub.0), term.0),
-        SubRow::Then(first, second) => mixed(mixed(10, first.0), second.0),
-    }
-}
-
-/// That of an operator over its kids.
-#[inline(always)]
-pub fn digest_of_make(op: Op, kids: &[u64]) -> u64 {
-    let mut digest = mixed(11, u64::from(op as u8));
-    for kid in kids {
-        digest = mixed(digest, *kid);
-    }
-    digest
 }

@@ -16,6 +16,7 @@
 //! ```
 #![tactic(auto)]
 
+mod alike;
 mod fits;
 mod held;
 mod recent;

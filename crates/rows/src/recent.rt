@@ -5,9 +5,6 @@ use std::alloc::Global;
 /// How many rows are remembered at most, in 64 KB.
 const PLACES: usize = 1 << 12;
 
-/// An odd number whose bits are mixed.
-const FACTOR: u64 = 0x517c_c1b7_2722_0a95;
-
 /// A row, with the digest of what it holds.
 #[derive(Clone, Copy, Debug)]
 struct Place {
@@ -53,10 +50,4 @@ impl Recent {
 #[inline(always)]
 fn place_of(digest: u64) -> usize {
     (digest >> 52) as usize
-}
-
-/// A digest with one more number, as in the hash of Firefox.
-#[inline(always)]
-pub fn mixed(digest: u64, number: u64) -> u64 {
-    (digest.rotate_left(5) ^ number).wrapping_mul(FACTOR)
 }

@@ -2,10 +2,10 @@
 
 ghost use Rattle.rows.specs.Held.{AreHeld};
 
-use crate::held::{Held, HeldSize, HeldSub, digest_of_make, digest_of_sub};
+use crate::held::{Held, HeldSize, HeldSub};
 use crate::recent::Recent;
 use crate::traits::{Maker, Reader, Rows};
-use crate::views::{CtxId, CtxRow, SubId, SubRow, SubSize, TermId, TermRow};
+use crate::views::{CtxId, CtxRow, Row, SubId, SubRow, SubSize, TermId, TermRow};
 use std::alloc::{AllocError, Global};
 use trees::{Op, PartKind, kid_count};
 
@@ -30,7 +30,7 @@ impl RowStore {
     ghost use Rattle.trees.specs.Trees.{greatest_shift};
     ghost use Rattle.trees.specs.Things.{Kept, both, kind_of, made, meanings, then_of};
     ghost use Rattle.rows.specs.Views.{IsSubst, IsOfKind, IsSubFit, ShiftAtMost, sub_meaning};
-    ghost use Rattle.rows.specs.Views.{sub_names};
+    ghost use Rattle.rows.specs.Views.{IsFit, row_meaning, sub_names};
     ghost use Rattle.rows.specs.Held.{held_meaning, is_alone, IsSizeAt};
     ghost use Rattle.rows.specs.Shown.{things, store_means};
 
@@ -116,73 +116,30 @@ impl RowStore {
         }
     }
 
-    /// Whether the row of that number is held as this one.
+    /// The row of that number, if there is one.
     #[inline(always)]
-    fn is_held_at(&self, at: u64, row: Held) -> bool
-        ensures { IsTrue result → slice_get self.now.rows.items at ≡ Some row }
-    {
-        at < self.len() as u64 && self.row(at) == row
-    }
-
-    /// Whether the row of that number is this substitution.
-    #[inline(always)]
-    fn is_sub_at(&self, at: u64, row: SubRow) -> bool
-        ensures { let f = store_means self.now in IsTrue result → f at ≡ sub_meaning f row }
-    {
-        self.is_of_kind(at, PartKind::Subst) && self.sub(SubId(at)).row == row
-    }
-
-    /// Whether the row of that number is this operator over the rows of its kids.
-    #[inline(always)]
-    fn is_make_at(&self, at: u64, op: Op, kids: &[u64]) -> bool
-        ensures { let f = store_means self.now in IsTrue result →
-            f at ≡ option_and_then (made op) (meanings f kids.now) }
-    {
-        if !self.is_of_kind(at, PartKind::Term) {
-            return false;
-        }
-        match self.term(TermId(at)) {
-            TermRow::Make(with, others) => with == op && others == kids,
-            _ => false,
-        }
-    }
-
-    /// The row that was made last of those in the place of a digest, where it is this one.
-    #[inline(always)]
-    fn recent_alone(&self, digest: u64, row: Held) -> Option<u64>
-        requires { IsTrue (is_alone row) }
+    pub fn row_at(&self, at: u64) -> Option<Row<'_>>
         ensures { let f = store_means self.now in
-            IfSome result (λ at. f at ≡ held_meaning f [] [] row) }
+            IfSome result (λ row. f at ≡ row_meaning f row) }
     {
-        let at = self.recent.at(digest)?;
-        if self.is_held_at(at, row) {
-            Some(at)
-        } else {
-            None
+        if at >= self.len() as u64 {
+            return None;
         }
+        Some(match self.kind(at) {
+            PartKind::Term => Row::Term(self.term(TermId(at))),
+            PartKind::Subst => Row::Subst(self.subst(SubId(at))),
+            PartKind::Context => Row::Context(self.context(CtxId(at))),
+        })
     }
 
-    /// The same of a substitution.
+    /// The newest row of a digest, where it reads as this one.
     #[inline(always)]
-    fn recent_sub(&self, digest: u64, row: SubRow) -> Option<u64>
-        ensures { let f = store_means self.now in IfSome result (λ at. f at ≡ sub_meaning f row) }
-    {
-        let at = self.recent.at(digest)?;
-        if self.is_sub_at(at, row) {
-            Some(at)
-        } else {
-            None
-        }
-    }
-
-    /// The same of an operator over the rows of its kids.
-    #[inline(always)]
-    fn recent_make(&self, digest: u64, op: Op, kids: &[u64]) -> Option<u64>
+    fn recent_row(&self, digest: u64, row: Row<'_>) -> Option<u64>
         ensures { let f = store_means self.now in
-            IfSome result (λ at. f at ≡ option_and_then (made op) (meanings f kids.now)) }
+            IfSome result (λ at. f at ≡ row_meaning f row.entry) }
     {
         let at = self.recent.at(digest)?;
-        if self.is_make_at(at, op, kids) {
+        if self.row_at(at)?.reads_as(row) {
             Some(at)
         } else {
             None
@@ -197,41 +154,46 @@ impl RowStore {
         self.recent.put(digest, at);
     }
 
-    /// A row that holds nothing beside it: one that was made of late, or a new one.
-    fn alone(&mut self, row: Held) -> Result<u64, AllocError>
-        requires alone { IsTrue (is_alone row) }
-        requires means { IsSome (held_meaning (store_means self.old) [] [] row) }
+    /// A row that fits: one that was made of late, or a new one.
+    #[inline(always)]
+    pub fn add(&mut self, row: Row<'_>) -> Result<u64, AllocError>
+        requires { IsFit (store_means self.old) row }
         ensures kept { Kept (store_means self.old) (store_means self.new) }
-        ensures meaning { IfOk result
-            (λ at. store_means self.new at ≡ held_meaning (store_means self.old) [] [] row) }
+        ensures meaning { IfOk result (λ at.
+            store_means self.new at ≡ row_meaning (store_means self.old) row.entry) }
     {
         let digest = row.digest();
-        match self.recent_alone(digest, row) {
+        match self.recent_row(digest, row) {
             Some(at) => Ok(at),
             None => {
-                let at = self.add_alone(row)?;
+                let at = self.add_new(row)?;
                 self.remember(digest, at);
                 Ok(at)
             }
         }
     }
 
-    /// The row of a substitution: one that was made of late, or a new one.
-    fn sub_of(&mut self, row: SubRow) -> Result<u64, AllocError>
-        requires { IsSubFit (store_means self.old) row }
+    /// A new row.
+    fn add_new(&mut self, row: Row<'_>) -> Result<u64, AllocError>
+        requires { IsFit (store_means self.old) row }
         ensures kept { Kept (store_means self.old) (store_means self.new) }
-        ensures meaning { IfOk result
-            (λ at. store_means self.new at ≡ sub_meaning (store_means self.old) row) }
+        ensures meaning { IfOk result (λ at.
+            store_means self.new at ≡ row_meaning (store_means self.old) row.entry) }
     {
-        let digest = digest_of_sub(row);
-        match self.recent_sub(digest, row) {
-            Some(at) => Ok(at),
-            None => {
+        match row {
+            Row::Term(TermRow::Var(index)) => Ok(self.add_alone(Held::Var(index))?),
+            Row::Term(TermRow::Make(op, kids)) => Ok(self.add_make(op, kids)?),
+            Row::Term(TermRow::Instance(term, sub)) => Ok(self.add_alone(Held::Instance(
+                term, sub,
+            ))?),
+            Row::Subst(row) => {
                 let size = self.size_of(row);
-                let at = self.add_sub(row, size)?;
-                self.remember(digest, at);
-                Ok(at)
+                Ok(self.add_sub(row, size)?)
             }
+            Row::Context(CtxRow::Nil) => Ok(self.add_alone(Held::CtxNil)?),
+            Row::Context(CtxRow::Var(ctx, ty)) => Ok(self.add_alone(Held::CtxVar(ctx, ty))?),
+            Row::Context(CtxRow::Name(ctx)) => Ok(self.add_alone(Held::CtxName(ctx))?),
+            Row::Context(CtxRow::Face(ctx, face)) => Ok(self.add_alone(Held::CtxFace(ctx, face))?),
         }
     }
 
@@ -326,51 +288,43 @@ impl Maker for RowStore {
     ghost spare = { λ s. 0 };
 
     fn var(&mut self, index: u32) -> Result<u64, AllocError> {
-        Ok(self.alone(Held::Var(index))?)
+        Ok(self.add(Row::Term(TermRow::Var(index)))?)
     }
 
     fn make(&mut self, op: Op, kids: &[u64]) -> Result<u64, AllocError> {
-        let digest = digest_of_make(op, kids);
-        match self.recent_make(digest, op, kids) {
-            Some(at) => Ok(at),
-            None => {
-                let at = self.add_make(op, kids)?;
-                self.remember(digest, at);
-                Ok(at)
-            }
-        }
+        Ok(self.add(Row::Term(TermRow::Make(op, kids)))?)
     }
 
     fn instance(&mut self, term: u64, sub: u64) -> Result<u64, AllocError> {
-        Ok(self.alone(Held::Instance(TermId(term), SubId(sub)))?)
+        Ok(self.add(Row::Term(TermRow::Instance(TermId(term), SubId(sub))))?)
     }
 
     fn shift(&mut self, by: u64) -> Result<u64, AllocError> {
-        Ok(self.sub_of(SubRow::Shift(by))?)
+        Ok(self.add(Row::Subst(SubRow::Shift(by)))?)
     }
 
     fn push(&mut self, sub: u64, term: u64) -> Result<u64, AllocError> {
-        Ok(self.sub_of(SubRow::Push(SubId(sub), TermId(term)))?)
+        Ok(self.add(Row::Subst(SubRow::Push(SubId(sub), TermId(term))))?)
     }
 
     fn then(&mut self, first: u64, second: u64) -> Result<u64, AllocError> {
-        Ok(self.sub_of(SubRow::Then(SubId(first), SubId(second)))?)
+        Ok(self.add(Row::Subst(SubRow::Then(SubId(first), SubId(second))))?)
     }
 
     fn ctx_nil(&mut self) -> Result<u64, AllocError> {
-        Ok(self.alone(Held::CtxNil)?)
+        Ok(self.add(Row::Context(CtxRow::Nil))?)
     }
 
     fn ctx_var(&mut self, ctx: u64, ty: u64) -> Result<u64, AllocError> {
-        Ok(self.alone(Held::CtxVar(CtxId(ctx), TermId(ty)))?)
+        Ok(self.add(Row::Context(CtxRow::Var(CtxId(ctx), TermId(ty))))?)
     }
 
     fn ctx_name(&mut self, ctx: u64) -> Result<u64, AllocError> {
-        Ok(self.alone(Held::CtxName(CtxId(ctx)))?)
+        Ok(self.add(Row::Context(CtxRow::Name(CtxId(ctx))))?)
     }
 
     fn ctx_face(&mut self, ctx: u64, face: u64) -> Result<u64, AllocError> {
-        Ok(self.alone(Held::CtxFace(CtxId(ctx), TermId(face)))?)
+        Ok(self.add(Row::Context(CtxRow::Face(CtxId(ctx), TermId(face))))?)
     }
 }
 

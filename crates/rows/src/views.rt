@@ -60,7 +60,7 @@ pub struct SubSize {
 }
 
 /// A row of a context.
-#[derive(Clone, Copy, Debug)]
+#[derive(Clone, Copy, Debug, PartialEq, Eq)]
 pub enum CtxRow {
     /// The empty context: `ctx []`.
     Nil,
