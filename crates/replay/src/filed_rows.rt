@@ -5,7 +5,7 @@ ghost use Rattle.std.specs.Prelude.{slice_get, IfOk, OnOk, OnErr, Some};
 ghost use Rattle.replay.specs.Held.{Longer, filed_as};
 
 use crate::filed::Filed;
-use crate::number::kept;
+use rows::kept;
 use std::alloc::{AllocError, Global};
 use std::marker::Model;
 use theory::Claim;

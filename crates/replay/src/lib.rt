@@ -18,7 +18,6 @@ mod judging;
 mod known_rows;
 mod named;
 mod node;
-mod number;
 mod row_judge;
 mod row_maker;
 mod thing;

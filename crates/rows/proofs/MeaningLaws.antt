@@ -14,10 +14,12 @@ use Rattle.trees.proofs.Meanings.{meanings-cons, meanings-kept, meanings-length}
 use Rattle.rows.specs.declared.held.Held.{Held}
 use Rattle.rows.specs.declared.held.Held.TheVariants as held
 use Rattle.rows.specs.declared.held.HeldSub.{HeldSub}
+use Rattle.rows.specs.declared.held.HeldSubRow.{HeldSubRow}
+use Rattle.rows.specs.declared.held.HeldSubRow.TheVariants as heldsub
 use Rattle.rows.specs.declared.views.SubRow.{SubRow}
 use Rattle.rows.specs.declared.views.SubRow.TheVariants as sub
 use Rattle.rows.specs.Views.{IsTree, IsSubst, IsContext, IsOfKind, sub_meaning, sub_names}
-use Rattle.rows.specs.Held.{held_meaning, held_sub_meaning, kids_at, kind_held}
+use Rattle.rows.specs.Held.{held_meaning, held_row_meaning, held_row_names, held_sub_meaning, kids_at, kind_held}
 use Rattle.rows.proofs.OptionLaws.{both-some, one-some}
 
 -- a value that is there
@@ -34,14 +36,14 @@ both-kept f g kept h j k x e =
 pub one-kept : {C : Type 0} (f g : Meanings) → Kept f g → (h : Thing → Option C) (k : ℕ) (x : C) → option_and_then h (f k) ≡ Some x → option_and_then h (g k) ≡ Some x
 one-kept f g kept h k x e = let o = one-some h (f k) x e in rw (kept.keeps k o.first o.first_is) o.whole
 
-pub sub_meaning-kept : (f g : Meanings) → Kept f g → (r : SubRow) (x : Thing) → sub_meaning f r ≡ Some x → sub_meaning g r ≡ Some x
-sub_meaning-kept f g kept (sub.Shift n) x e = e
-sub_meaning-kept f g kept (sub.Push d a) x e = both-kept f g kept pushed_on d.0 a.0 x e
-sub_meaning-kept f g kept (sub.Then d e) x is = both-kept f g kept then_of d.0 e.0 x is
+held_row_meaning-kept : (f g : Meanings) → Kept f g → (r : HeldSubRow) (x : Thing) → held_row_meaning f r ≡ Some x → held_row_meaning g r ≡ Some x
+held_row_meaning-kept f g kept (heldsub.Shift n) x e = e
+held_row_meaning-kept f g kept (heldsub.Push d a) x e = both-kept f g kept pushed_on d a x e
+held_row_meaning-kept f g kept (heldsub.Then d e) x is = both-kept f g kept then_of d e x is
 
 held_sub_meaning-kept : (f g : Meanings) → Kept f g → (s : Option HeldSub) (x : Thing) → held_sub_meaning f s ≡ Some x → held_sub_meaning g s ≡ Some x
 held_sub_meaning-kept f g kept None x e = cc
-held_sub_meaning-kept f g kept (Some s) x e = sub_meaning-kept f g kept s.row x e
+held_sub_meaning-kept f g kept (Some s) x e = held_row_meaning-kept f g kept s.row x e
 
 pub held_meaning-kept : (f g : Meanings) → Kept f g → (kids : List ℕ) (subs : List HeldSub) (r : Held) (x : Thing) → held_meaning f kids subs r ≡ Some x → held_meaning g kids subs r ≡ Some x
 held_meaning-kept f g kept kids subs (held.Var k) x e = e
@@ -49,27 +51,27 @@ held_meaning-kept f g kept kids subs (held.Make op at) x e =
     let ks = kids_at kids (kids_of op) at in
     let o = one-some (made op) (meanings f ks) x e in
     ap (option_and_then (made op)) (meanings-kept f g kept ks o.first o.first_is) ∙ o.whole
-held_meaning-kept f g kept kids subs (held.Instance t d) x e = both-kept f g kept instance_of t.0 d.0 x e
+held_meaning-kept f g kept kids subs (held.Instance t d) x e = both-kept f g kept instance_of t d x e
 held_meaning-kept f g kept kids subs (held.Subst at) x e = held_sub_meaning-kept f g kept (slice_get subs at) x e
 held_meaning-kept f g kept kids subs held.CtxNil x e = e
-held_meaning-kept f g kept kids subs (held.CtxVar G A) x e = both-kept f g kept with_variable G.0 A.0 x e
-held_meaning-kept f g kept kids subs (held.CtxName G) x e = one-kept f g kept with_a_name G.0 x e
-held_meaning-kept f g kept kids subs (held.CtxFace G p) x e = both-kept f g kept with_a_face G.0 p.0 x e
+held_meaning-kept f g kept kids subs (held.CtxVar G A) x e = both-kept f g kept with_variable G A x e
+held_meaning-kept f g kept kids subs (held.CtxName G) x e = one-kept f g kept with_a_name G x e
+held_meaning-kept f g kept kids subs (held.CtxFace G p) x e = both-kept f g kept with_a_face G p x e
 
 -- the rows that a row names
 abbrev pub held_sub_names : Option HeldSub → List ℕ
 held_sub_names None = []
-held_sub_names (Some s) = sub_names s.row
+held_sub_names (Some s) = held_row_names s.row
 
 abbrev pub held_names : List ℕ → List HeldSub → Held → List ℕ
 held_names kids subs (held.Var k) = []
 held_names kids subs (held.Make op at) = kids_at kids (kids_of op) at
-held_names kids subs (held.Instance t d) = t.0 ∷ d.0 ∷ []
+held_names kids subs (held.Instance t d) = t ∷ d ∷ []
 held_names kids subs (held.Subst at) = held_sub_names (slice_get subs at)
 held_names kids subs held.CtxNil = []
-held_names kids subs (held.CtxVar G A) = G.0 ∷ A.0 ∷ []
-held_names kids subs (held.CtxName G) = G.0 ∷ []
-held_names kids subs (held.CtxFace G p) = G.0 ∷ p.0 ∷ []
+held_names kids subs (held.CtxVar G A) = G ∷ A ∷ []
+held_names kids subs (held.CtxName G) = G ∷ []
+held_names kids subs (held.CtxFace G p) = G ∷ p ∷ []
 
 -- they mean something
 abbrev pub Mean : Meanings → ℕ → Type 0
@@ -91,9 +93,14 @@ sub_names-mean f (sub.Shift n) x e = All-nil (Mean f)
 sub_names-mean f (sub.Push d a) x e = both-mean f pushed_on d.0 a.0 x e
 sub_names-mean f (sub.Then d e) x is = both-mean f then_of d.0 e.0 x is
 
+held_row_names-mean : (f : Meanings) (r : HeldSubRow) (x : Thing) → held_row_meaning f r ≡ Some x → All (Mean f) (held_row_names r)
+held_row_names-mean f (heldsub.Shift n) x e = All-nil (Mean f)
+held_row_names-mean f (heldsub.Push d a) x e = both-mean f pushed_on d a x e
+held_row_names-mean f (heldsub.Then d e) x is = both-mean f then_of d e x is
+
 held_sub_names-mean : (f : Meanings) (s : Option HeldSub) (x : Thing) → held_sub_meaning f s ≡ Some x → All (Mean f) (held_sub_names s)
 held_sub_names-mean f None x e = cc
-held_sub_names-mean f (Some s) x e = sub_names-mean f s.row x e
+held_sub_names-mean f (Some s) x e = held_row_names-mean f s.row x e
 
 pub held_names-mean : (f : Meanings) (kids : List ℕ) (subs : List HeldSub) (r : Held) (x : Thing) → held_meaning f kids subs r ≡ Some x → All (Mean f) (held_names kids subs r)
 held_names-mean f kids subs (held.Var k) x e = All-nil (Mean f)
@@ -101,14 +108,14 @@ held_names-mean f kids subs (held.Make op at) x e =
     let ks = kids_at kids (kids_of op) at in
     let o = one-some (made op) (meanings f ks) x e in
     meanings-mean f ks o.first o.first_is
-held_names-mean f kids subs (held.Instance t d) x e = both-mean f instance_of t.0 d.0 x e
+held_names-mean f kids subs (held.Instance t d) x e = both-mean f instance_of t d x e
 held_names-mean f kids subs (held.Subst at) x e = held_sub_names-mean f (slice_get subs at) x e
 held_names-mean f kids subs held.CtxNil x e = All-nil (Mean f)
-held_names-mean f kids subs (held.CtxVar G A) x e = both-mean f with_variable G.0 A.0 x e
+held_names-mean f kids subs (held.CtxVar G A) x e = both-mean f with_variable G A x e
 held_names-mean f kids subs (held.CtxName G) x e =
-    let o = one-some with_a_name (f G.0) x e in
-    All-cons (Mean f) G.0 [] (o.first, o.first_is) (All-nil (Mean f))
-held_names-mean f kids subs (held.CtxFace G p) x e = both-mean f with_a_face G.0 p.0 x e
+    let o = one-some with_a_name (f G) x e in
+    All-cons (Mean f) G [] (o.first, o.first_is) (All-nil (Mean f))
+held_names-mean f kids subs (held.CtxFace G p) x e = both-mean f with_a_face G p x e
 
 -- a row means a thing of its kind
 pub kind-same : (y x : Thing) → Some y ≡ Some x → kind_of x ≡ kind_of y
@@ -155,14 +162,14 @@ with_a_face-kind _ _ x e = cc
 pub both-kind : (f : Meanings) (h : Thing → Thing → Option Thing) (kind : PartKind) → ((a b x : Thing) → h a b ≡ Some x → kind_of x ≡ kind) → (j k : ℕ) (x : Thing) → both h (f j) (f k) ≡ Some x → kind_of x ≡ kind
 both-kind f h kind of j k x e = let b = both-some h (f j) (f k) x e in of b.first b.second x b.whole
 
-sub_meaning-kind : (f : Meanings) (r : SubRow) (x : Thing) → sub_meaning f r ≡ Some x → kind_of x ≡ part.Subst
-sub_meaning-kind f (sub.Shift n) x e = kind-same _ x e
-sub_meaning-kind f (sub.Push d a) x e = both-kind f pushed_on part.Subst pushed_on-kind d.0 a.0 x e
-sub_meaning-kind f (sub.Then d e) x is = both-kind f then_of part.Subst then_of-kind d.0 e.0 x is
+held_row_meaning-kind : (f : Meanings) (r : HeldSubRow) (x : Thing) → held_row_meaning f r ≡ Some x → kind_of x ≡ part.Subst
+held_row_meaning-kind f (heldsub.Shift n) x e = kind-same _ x e
+held_row_meaning-kind f (heldsub.Push d a) x e = both-kind f pushed_on part.Subst pushed_on-kind d a x e
+held_row_meaning-kind f (heldsub.Then d e) x is = both-kind f then_of part.Subst then_of-kind d e x is
 
 held_sub_meaning-kind : (f : Meanings) (s : Option HeldSub) (x : Thing) → held_sub_meaning f s ≡ Some x → kind_of x ≡ part.Subst
 held_sub_meaning-kind f None x e = cc
-held_sub_meaning-kind f (Some s) x e = sub_meaning-kind f s.row x e
+held_sub_meaning-kind f (Some s) x e = held_row_meaning-kind f s.row x e
 
 pub held_meaning-kind : (f : Meanings) (kids : List ℕ) (subs : List HeldSub) (r : Held) (x : Thing) → held_meaning f kids subs r ≡ Some x → kind_of x ≡ kind_held r
 held_meaning-kind f kids subs (held.Var k) x e = kind-same _ x e
@@ -170,13 +177,13 @@ held_meaning-kind f kids subs (held.Make op at) x e =
     let o = one-some (made op) (meanings f (kids_at kids (kids_of op) at)) x e in
     let t = one-some (over_kids op) (only_trees o.first) x o.whole in
     over_kids-kind op t.first x t.whole
-held_meaning-kind f kids subs (held.Instance t d) x e = both-kind f instance_of part.Term instance_of-kind t.0 d.0 x e
+held_meaning-kind f kids subs (held.Instance t d) x e = both-kind f instance_of part.Term instance_of-kind t d x e
 held_meaning-kind f kids subs (held.Subst at) x e = held_sub_meaning-kind f (slice_get subs at) x e
 held_meaning-kind f kids subs held.CtxNil x e = kind-same _ x e
-held_meaning-kind f kids subs (held.CtxVar G A) x e = both-kind f with_variable part.Context with_variable-kind G.0 A.0 x e
+held_meaning-kind f kids subs (held.CtxVar G A) x e = both-kind f with_variable part.Context with_variable-kind G A x e
 held_meaning-kind f kids subs (held.CtxName G) x e =
-    let o = one-some with_a_name (f G.0) x e in with_a_name-kind o.first x o.whole
-held_meaning-kind f kids subs (held.CtxFace G p) x e = both-kind f with_a_face part.Context with_a_face-kind G.0 p.0 x e
+    let o = one-some with_a_name (f G) x e in with_a_name-kind o.first x o.whole
+held_meaning-kind f kids subs (held.CtxFace G p) x e = both-kind f with_a_face part.Context with_a_face-kind G p x e
 
 -- a thing is of the kind that it is of
 pub is_of_kind : (x : Thing) → IsOfKind (kind_of x) (Some x)

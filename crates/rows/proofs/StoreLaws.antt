@@ -15,10 +15,10 @@ use Rattle.rows.specs.declared.held.Held.TheVariants as held
 use Rattle.rows.specs.declared.held.HeldSub.{HeldSub}
 use Rattle.rows.specs.declared.held.HeldSize.{HeldSize}
 use Rattle.substitution.proofs.ShiftBounds.{shift-then, count_of-then}
-use Rattle.rows.specs.Views.{IsSubst, ShiftAtMost, sub_meaning, sub_names}
+use Rattle.rows.specs.Views.{IsSubst, ShiftAtMost}
 use Rattle.rows.specs.Counts.{most_counted}
 use Rattle.rows.proofs.CountLaws.{count_held-is, is-count_held, count_held-push, count_held-then, past-held}
-use Rattle.rows.specs.Held.{held_meaning, held_sub_meaning, kids_at, kind_held, thing_of, things_of, kid_cells, sub_cells, kids_held, subs_held, is_alone, IsHeldSize, IsSizeAt, AreHeld}
+use Rattle.rows.specs.Held.{held_meaning, held_row_meaning, held_row_names, held_sub_meaning, kids_at, kind_held, thing_of, things_of, kid_cells, sub_cells, kids_held, subs_held, is_alone, IsHeldSize, IsSizeAt, AreHeld}
 use Rattle.rows.proofs.TableLaws.{length-built, slice_get-next, slice_get-prefix}
 use Rattle.rows.proofs.OptionLaws.{both-some}
 use Rattle.rows.proofs.MeaningLaws.{is_some-value, made-count, held_sub_names}
@@ -120,13 +120,13 @@ added-make rows kids subs op at ks rows' kids' h some place kids_are are =
     are
 
 -- a row of a substitution, which stands at the end of the others
-pub added-sub : (rows : List Held) (kids : List ℕ) (subs : List HeldSub) (s : HeldSub) (at : ℕ) (rows' : List Held) (subs' : List HeldSub) → AreHeld rows kids subs → IsSome (sub_meaning (slice_get (things_of rows kids subs)) s.row) → IsSizeAt (length (things_of rows kids subs)) (sub_meaning (slice_get (things_of rows kids subs)) s.row) s.size → at ≡ length subs → subs' ≡ subs ++ s ∷ [] → rows' ≡ rows ++ held.Subst at ∷ [] → Added rows kids subs rows' kids subs' (sub_meaning (slice_get (things_of rows kids subs)) s.row)
+pub added-sub : (rows : List Held) (kids : List ℕ) (subs : List HeldSub) (s : HeldSub) (at : ℕ) (rows' : List Held) (subs' : List HeldSub) → AreHeld rows kids subs → IsSome (held_row_meaning (slice_get (things_of rows kids subs)) s.row) → IsSizeAt (length (things_of rows kids subs)) (held_row_meaning (slice_get (things_of rows kids subs)) s.row) s.size → at ≡ length subs → subs' ≡ subs ++ s ∷ [] → rows' ≡ rows ++ held.Subst at ∷ [] → Added rows kids subs rows' kids subs' (held_row_meaning (slice_get (things_of rows kids subs)) s.row)
 added-sub rows kids subs s at rows' subs' h some sized place subs_are are =
     let f = slice_get (things_of rows kids subs) in
-    let x = is_some-value (sub_meaning f s.row) some in
+    let x = is_some-value (held_row_meaning f s.row) some in
     let there : slice_get subs' at ≡ Some s = ap₂ slice_get subs_are place ∙ slice_get-next subs [] s in
     let count = length-built (thing_of kids subs) rows in
-    added rows kids subs h (held.Subst at) rows' kids subs' (sub_meaning f s.row) x.0 x.1
+    added rows kids subs h (held.Subst at) rows' kids subs' (held_row_meaning f s.row) x.0 x.1
     (record {
       more_kids = [];
       kids_are = sym (append-nil kids);
@@ -140,7 +140,7 @@ added-sub rows kids subs s at rows' subs' h some sized place subs_are are =
       sized = λ i q d e read is. (
           let same : at ≡ i = cc in
           let is_it : s ≡ q = cc in
-          let size : IsHeldSize (length rows) d s.size = subst (λ o. IsSizeAt (length rows) o s.size) (x.1 ∙ ap Some is) (subst (λ n. IsSizeAt n (sub_meaning f s.row) s.size) count sized) in
+          let size : IsHeldSize (length rows) d s.size = subst (λ o. IsSizeAt (length rows) o s.size) (x.1 ∙ ap Some is) (subst (λ n. IsSizeAt n (held_row_meaning f s.row) s.size) count sized) in
           subst (λ r. IsHeldSize (length rows) d r.size) is_it size);
     })
     are
@@ -174,8 +174,8 @@ cells-there all kids subs rows r h are =
 
 -- a substitution that is read
 pub record SubThere (rows : List Held) (kids : List ℕ) (subs : List HeldSub) (k : ℕ) (s : HeldSub) : Type 0 where
-  pub meaning : slice_get (things_of rows kids subs) k ≡ sub_meaning (slice_get (things_of rows kids subs)) s.row
-  pub earlier : All (λ j. j < k) (sub_names s.row)
+  pub meaning : slice_get (things_of rows kids subs) k ≡ held_row_meaning (slice_get (things_of rows kids subs)) s.row
+  pub earlier : All (λ j. j < k) (held_row_names s.row)
   pub size : IsSizeAt k (slice_get (things_of rows kids subs) k) s.size
 
 pub sub_there : (rows : List Held) (kids : List ℕ) (subs : List HeldSub) → AreHeld rows kids subs → (k at : ℕ) (s : HeldSub) → slice_get rows k ≡ Some (held.Subst at) → s ≡ get_or subs at s → IsSubst (slice_get (things_of rows kids subs) k) → SubThere rows kids subs k s

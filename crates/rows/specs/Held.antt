@@ -1,41 +1,54 @@
 -- What rows in memory mean, and how their kids and substitutions stand beside them.
-use Rattle.std.specs.Prelude.{◌≡◌, ℕ, List, length, take, drop, Option, Some, None, IsSome, IsTrue}
+use Rattle.std.specs.Prelude.{◌≡◌, ℕ, List, [], ◌∷◌, length, take, drop, Option, Some, None, IsSome, IsTrue}
 use Rattle.std.specs.Prelude.{unwrap_or, Bool, true, false, slice_get, option_and_then, sum_by}
 use Rattle.trees.specs.declared.op.Op.{Op}
 use Rattle.trees.specs.Operators.{kids_of}
-use Rattle.trees.specs.Trees.{Subst, Var, count_of}
+use Rattle.trees.specs.Trees.{Subst, Var, shift_by, count_of}
 use Rattle.trees.specs.Judgements.{Nil}
 use Rattle.trees.specs.declared.kind.PartKind.{PartKind}
 use Rattle.trees.specs.declared.kind.PartKind.TheVariants as part
 use Rattle.trees.specs.Things.{Thing, ATree, ASubst, AContext, Meanings, both, meanings, made}
-use Rattle.trees.specs.Things.{instance_of, with_variable, with_a_name, with_a_face}
-use Rattle.rows.specs.Views.{sub_meaning}
+use Rattle.trees.specs.Things.{instance_of, pushed_on, then_of, with_variable, with_a_name}
+use Rattle.trees.specs.Things.{with_a_face}
 use Rattle.rows.specs.Tables.{built}
 use Rattle.rows.specs.Counts.{is_count_held}
 use Rattle.rows.specs.declared.held.Held.{Held}
 use Rattle.rows.specs.declared.held.Held.TheVariants as held
 use Rattle.rows.specs.declared.held.HeldSub.{HeldSub}
+use Rattle.rows.specs.declared.held.HeldSubRow.{HeldSubRow}
+use Rattle.rows.specs.declared.held.HeldSubRow.TheVariants as heldsub
 use Rattle.rows.specs.declared.held.HeldSize.{HeldSize}
 
 -- the kids of an operator that stand from this place on
 abbrev pub kids_at : List ℕ → ℕ → ℕ → List ℕ
 kids_at kids count at = take count (drop at kids)
 
+-- what a substitution means as it is held, and the rows that it names
+abbrev pub held_row_meaning : Meanings → HeldSubRow → Option Thing
+held_row_meaning f (heldsub.Shift n) = Some (ASubst (shift_by n))
+held_row_meaning f (heldsub.Push d a) = both pushed_on (f d) (f a)
+held_row_meaning f (heldsub.Then d e) = both then_of (f d) (f e)
+
+abbrev pub held_row_names : HeldSubRow → List ℕ
+held_row_names (heldsub.Shift n) = []
+held_row_names (heldsub.Push d a) = d ∷ a ∷ []
+held_row_names (heldsub.Then d e) = d ∷ e ∷ []
+
 abbrev pub held_sub_meaning : Meanings → Option HeldSub → Option Thing
 held_sub_meaning f None = None
-held_sub_meaning f (Some s) = sub_meaning f s.row
+held_sub_meaning f (Some s) = held_row_meaning f s.row
 
 -- what a row means, over these kids and substitutions
 abbrev pub held_meaning : Meanings → List ℕ → List HeldSub → Held → Option Thing
 held_meaning f kids subs (held.Var k) = Some (ATree (Var k))
 held_meaning f kids subs (held.Make op at) =
     option_and_then (made op) (meanings f (kids_at kids (kids_of op) at))
-held_meaning f kids subs (held.Instance t d) = both instance_of (f t.0) (f d.0)
+held_meaning f kids subs (held.Instance t d) = both instance_of (f t) (f d)
 held_meaning f kids subs (held.Subst at) = held_sub_meaning f (slice_get subs at)
 held_meaning f kids subs held.CtxNil = Some (AContext Nil)
-held_meaning f kids subs (held.CtxVar G A) = both with_variable (f G.0) (f A.0)
-held_meaning f kids subs (held.CtxName G) = option_and_then with_a_name (f G.0)
-held_meaning f kids subs (held.CtxFace G p) = both with_a_face (f G.0) (f p.0)
+held_meaning f kids subs (held.CtxVar G A) = both with_variable (f G) (f A)
+held_meaning f kids subs (held.CtxName G) = option_and_then with_a_name (f G)
+held_meaning f kids subs (held.CtxFace G p) = both with_a_face (f G) (f p)
 
 abbrev pub kind_held : Held → PartKind
 kind_held (held.Var k) = part.Term

@@ -24,7 +24,7 @@ mod store;
 mod traits;
 mod views;
 
-pub use held::HeldSize;
+pub use held::{HeldSize, kept};
 pub use store::RowStore;
 pub use traits::{Maker, Reader, Rows};
 pub use views::{CtxId, CtxRow, Row, SubId, SubRow, SubSize, TermId, TermRow};

@@ -2,7 +2,7 @@
 
 ghost use Rattle.rows.specs.Held.{AreHeld};
 
-use crate::held::{Held, HeldSize, HeldSub};
+use crate::held::{Held, HeldSize, HeldSub, HeldSubRow, kept};
 use crate::recent::Recent;
 use crate::traits::{Maker, Reader, Rows};
 use crate::views::{CtxId, CtxRow, Row, SubId, SubRow, SubSize, TermId, TermRow};
@@ -10,7 +10,7 @@ use std::alloc::{AllocError, Global};
 use trees::{Op, PartKind, kid_count};
 
 /// Rows in memory, named by their numbers from 0. Contracts see the list of what they mean. A row
-/// takes 24 bytes, each kid of an operator 8 more, and a substitution 64 more. One that is made
+/// takes 12 bytes, each kid of an operator 8 more, and a substitution 48 more. One that is made
 /// anew while it is among those made of late is found and takes none: rules make the same small
 /// trees again and again. After out of memory the rows are as before.
 #[derive(Drop)]
@@ -30,8 +30,8 @@ impl RowStore {
     ghost use Rattle.trees.specs.Trees.{greatest_shift};
     ghost use Rattle.trees.specs.Things.{Kept, both, kind_of, made, meanings, then_of};
     ghost use Rattle.rows.specs.Views.{IsSubst, IsOfKind, IsSubFit, ShiftAtMost, sub_meaning};
-    ghost use Rattle.rows.specs.Views.{IsFit, row_meaning, sub_names};
-    ghost use Rattle.rows.specs.Held.{held_meaning, is_alone, IsSizeAt};
+    ghost use Rattle.rows.specs.Views.{IsFit, row_meaning};
+    ghost use Rattle.rows.specs.Held.{held_meaning, held_row_meaning, held_row_names, is_alone, IsSizeAt};
     ghost use Rattle.rows.specs.Shown.{things, store_means};
 
     /// No rows.
@@ -106,12 +106,12 @@ impl RowStore {
     fn sub(&self, id: SubId) -> HeldSub
         requires { IsSubst (store_means self.now id.0) }
         ensures meaning { store_means self.now id.0 ≡
-            sub_meaning (store_means self.now) result.row }
-        ensures earlier { All (λ k. k < id.0) (sub_names result.row) }
+            held_row_meaning (store_means self.now) result.row }
+        ensures earlier { All (λ k. k < id.0) (held_row_names result.row) }
         ensures size { IsSizeAt id.0 (store_means self.now id.0) result.size }
     {
         match self.row(id.0) {
-            Held::Subst(at) => self.subs[at],
+            Held::Subst(at) => self.subs[at as usize],
             _ => unreachable!(),
         }
     }
@@ -183,17 +183,15 @@ impl RowStore {
         match row {
             Row::Term(TermRow::Var(index)) => Ok(self.add_alone(Held::Var(index))?),
             Row::Term(TermRow::Make(op, kids)) => Ok(self.add_make(op, kids)?),
-            Row::Term(TermRow::Instance(term, sub)) => Ok(self.add_alone(Held::Instance(
-                term, sub,
-            ))?),
+            Row::Term(TermRow::Instance(term, sub)) => {
+                let row = Held::Instance(kept(term.0)?, kept(sub.0)?);
+                Ok(self.add_alone(row)?)
+            }
             Row::Subst(row) => {
                 let size = self.size_of(row);
-                Ok(self.add_sub(row, size)?)
+                Ok(self.add_sub(HeldSubRow::of(row)?, size)?)
             }
-            Row::Context(CtxRow::Nil) => Ok(self.add_alone(Held::CtxNil)?),
-            Row::Context(CtxRow::Var(ctx, ty)) => Ok(self.add_alone(Held::CtxVar(ctx, ty))?),
-            Row::Context(CtxRow::Name(ctx)) => Ok(self.add_alone(Held::CtxName(ctx))?),
-            Row::Context(CtxRow::Face(ctx, face)) => Ok(self.add_alone(Held::CtxFace(ctx, face))?),
+            Row::Context(row) => Ok(self.add_alone(Held::of_context(row)?)?),
         }
     }
 
@@ -236,22 +234,23 @@ impl RowStore {
     }
 
     /// A new row of a substitution of this size.
-    fn add_sub(&mut self, row: SubRow, size: HeldSize) -> Result<u64, AllocError>
-        requires means { IsSome (sub_meaning (store_means self.old) row) }
+    fn add_sub(&mut self, row: HeldSubRow, size: HeldSize) -> Result<u64, AllocError>
+        requires means { IsSome (held_row_meaning (store_means self.old) row) }
         requires size { IsSizeAt (length (things self.old))
-            (sub_meaning (store_means self.old) row) size }
+            (held_row_meaning (store_means self.old) row) size }
         ensures kept { Kept (store_means self.old) (store_means self.new) }
         ensures meaning { IfOk result
-            (λ at. store_means self.new at ≡ sub_meaning (store_means self.old) row) }
+            (λ at. store_means self.new at ≡ held_row_meaning (store_means self.old) row) }
         ensures err { OnErr result (things self.new ≡ things self.old) }
     {
         let number = self.rows.len() as u64;
-        let at = self.subs.len();
+        let count = self.subs.len();
+        let at = kept(count as u64)?;
         self.subs.push(HeldSub { row, size })?;
         match self.rows.push(Held::Subst(at)) {
             Ok(()) => Ok(number),
             Err(_) => {
-                self.subs.truncate(at);
+                self.subs.truncate(count);
                 Err(AllocError)
             }
         }
@@ -266,12 +265,13 @@ impl RowStore {
         ensures err { OnErr result (things self.new ≡ things self.old) }
     {
         let number = self.rows.len() as u64;
-        let at = self.kids.len();
+        let count = self.kids.len();
+        let at = kept(count as u64)?;
         self.kids.extend_from_slice(kids)?;
         match self.rows.push(Held::Make(op, at)) {
             Ok(()) => Ok(number),
             Err(_) => {
-                self.kids.truncate(at);
+                self.kids.truncate(count);
                 Err(AllocError)
             }
         }
@@ -332,14 +332,17 @@ impl Reader for RowStore {
     fn term(&self, id: TermId) -> TermRow<'_> {
         match self.row(id.0) {
             Held::Var(index) => TermRow::Var(index),
-            Held::Make(op, at) => TermRow::Make(op, &self.kids[at..at + kid_count(op) as usize]),
-            Held::Instance(term, sub) => TermRow::Instance(term, sub),
+            Held::Make(op, at) => {
+                let at = at as usize;
+                TermRow::Make(op, &self.kids[at..at + kid_count(op) as usize])
+            }
+            Held::Instance(term, sub) => TermRow::Instance(TermId(term as u64), SubId(sub as u64)),
             _ => unreachable!(),
         }
     }
 
     fn subst(&self, id: SubId) -> SubRow {
-        self.sub(id).row
+        self.sub(id).row.row()
     }
 
     fn size(&self, id: SubId) -> SubSize {
@@ -353,9 +356,9 @@ impl Reader for RowStore {
     fn context(&self, id: CtxId) -> CtxRow {
         match self.row(id.0) {
             Held::CtxNil => CtxRow::Nil,
-            Held::CtxVar(ctx, ty) => CtxRow::Var(ctx, ty),
-            Held::CtxName(ctx) => CtxRow::Name(ctx),
-            Held::CtxFace(ctx, face) => CtxRow::Face(ctx, face),
+            Held::CtxVar(ctx, ty) => CtxRow::Var(CtxId(ctx as u64), TermId(ty as u64)),
+            Held::CtxName(ctx) => CtxRow::Name(CtxId(ctx as u64)),
+            Held::CtxFace(ctx, face) => CtxRow::Face(CtxId(ctx as u64), TermId(face as u64)),
             _ => unreachable!(),
         }
     }

@@ -9,7 +9,7 @@ use Rattle.rows.proofs.store.RowStore.add_make.Goals.{In-Ok}
 row_added : (c : In-Ok) → Added c.args.self.now.rows.items c.args.self.now.kids.items c.args.self.now.subs.items c.push.new.self.items c.extend_from_slice.new.self.items c.args.self.now.subs.items (option_and_then (made c.args.op) (meanings (store_means c.args.self.now) c.args.kids.now))
 row_added c =
     let s = c.args.self.now in
-    added-make s.rows.items s.kids.items s.subs.items c.args.op c.len-at.result c.args.kids.now c.push.new.self.items c.extend_from_slice.new.self.items s.held c.requires (c.len-at.ensures ∙ s.kids.ok.0) c.in_ok-extend_from_slice.ensures.items c.in-Ok.ensures.items
+    added-make s.rows.items s.kids.items s.subs.items c.args.op c.in_ok-at.at c.args.kids.now c.push.new.self.items c.extend_from_slice.new.self.items s.held c.requires (c.in_ok-at.ensures ∙ c.len-count.ensures ∙ s.kids.ok.0) c.in_ok-extend_from_slice.ensures.items c.in-Ok.ensures.items
 
 pub invariant_of-self-in-Ok : goal.invariant_of-self-in-Ok
 invariant_of-self-in-Ok c = record { held = (row_added c).held }

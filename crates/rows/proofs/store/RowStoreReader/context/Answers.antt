@@ -1,10 +1,8 @@
-use Rattle.std.proofs.Common.{◌≡◌, ◌∙◌, sym, refl}
+use Rattle.std.proofs.Common.{◌≡◌, ℕ, ◌∙◌, sym, refl}
 use Rattle.trees.specs.Things.{AContext}
 use Rattle.trees.specs.declared.kind.PartKind.TheVariants as part
 use Rattle.rows.specs.declared.held.Held.{Held}
 use Rattle.rows.specs.declared.held.Held.TheVariants as held
-use Rattle.rows.specs.declared.views.TermId.{TermId}
-use Rattle.rows.specs.declared.views.CtxId.{CtxId}
 use Rattle.rows.specs.Held.{kind_held}
 use Rattle.rows.proofs.HeldLaws.{means_there}
 use Rattle.rows.proofs.StoreLaws.{kind_there}
@@ -15,7 +13,7 @@ unreachable-requires c =
     let s = c.args.self.now in
     is_context c.row.result (kind_there s.rows.items s.kids.items s.subs.items s.held c.args.id.0 c.row.result (AContext c.requires.0) c.row.ensures c.requires.1) c.in_default.not-CtxNil c.in_default.not-CtxVar c.in_default.not-CtxName c.in_default.not-CtxFace
   where
-    is_context : (r : Held) → part.Context ≡ kind_held r → (r ≡ held.CtxNil → ⊥) → ((G : CtxId) (A : TermId) → r ≡ held.CtxVar G A → ⊥) → ((G : CtxId) → r ≡ held.CtxName G → ⊥) → ((G : CtxId) (p : TermId) → r ≡ held.CtxFace G p → ⊥) → ⊥
+    is_context : (r : Held) → part.Context ≡ kind_held r → (r ≡ held.CtxNil → ⊥) → ((G : ℕ) (A : ℕ) → r ≡ held.CtxVar G A → ⊥) → ((G : ℕ) → r ≡ held.CtxName G → ⊥) → ((G : ℕ) (p : ℕ) → r ≡ held.CtxFace G p → ⊥) → ⊥
     is_context held.CtxNil e nil var name face = nil refl
     is_context (held.CtxVar G A) e nil var name face = var G A refl
     is_context (held.CtxName G) e nil var name face = name G refl

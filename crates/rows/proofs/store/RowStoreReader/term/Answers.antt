@@ -4,8 +4,6 @@ use Rattle.std.specs.List.{All}
 use Rattle.trees.specs.declared.op.Op.{Op}
 use Rattle.trees.specs.Operators.{kids_of}
 use Rattle.trees.specs.Things.{ATree, made, meanings}
-use Rattle.rows.specs.declared.views.TermId.{TermId}
-use Rattle.rows.specs.declared.views.SubId.{SubId}
 use Rattle.rows.specs.Shown.{store_means}
 use Rattle.trees.specs.declared.kind.PartKind.TheVariants as part
 use Rattle.rows.specs.declared.held.Held.{Held}
@@ -21,7 +19,7 @@ unreachable-requires c =
     let s = c.args.self.now in
     is_term c.row.result (kind_there s.rows.items s.kids.items s.subs.items s.held c.args.id.0 c.row.result (ATree c.requires.0) c.row.ensures c.requires.1) c.in_default.not-Var c.in_default.not-Make c.in_default.not-Instance
   where
-    is_term : (r : Held) → part.Term ≡ kind_held r → ((k : ℕ) → r ≡ held.Var k → ⊥) → ((op : Op) (at : ℕ) → r ≡ held.Make op at → ⊥) → ((t : TermId) (d : SubId) → r ≡ held.Instance t d → ⊥) → ⊥
+    is_term : (r : Held) → part.Term ≡ kind_held r → ((k : ℕ) → r ≡ held.Var k → ⊥) → ((op : Op) (at : ℕ) → r ≡ held.Make op at → ⊥) → ((t d : ℕ) → r ≡ held.Instance t d → ⊥) → ⊥
     is_term (held.Var k) e var make instance = var k refl
     is_term (held.Make op at) e var make instance = make op at refl
     is_term (held.Instance t d) e var make instance = instance t d refl
