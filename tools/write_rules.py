@@ -52,39 +52,35 @@ def listed(items):
     return " ∷ ".join(items + ["[]"])
 
 
-def field(name, items):
-    """A field of a rule that is a list, an item a line where one line is too long."""
-    line = f"    {name} = {listed(items)};"
-    if len(line) <= WIDTH:
-        return [line]
-    return [f"    {name} =", *(f"  {one}" for one in item_lines(items)[:-1]), "      ∷ [];"]
+def filled(words, indent):
+    """Words as lines, each as long as it may be, those after the first further in."""
+    return textwrap.wrap(words, WIDTH, initial_indent=indent, subsequent_indent=indent + "  ",
+                         break_long_words=False, break_on_hyphens=False)
 
 
-def item_lines(items):
-    """A list as lines, an item each."""
-    return [f"    {'∷ ' if at else ''}{item}" for at, item in enumerate(items)] + ["    ∷ []"]
+def list_lines(items, indent):
+    """A list as lines, as many items a line as fit."""
+    lines = [[]]
+    for item in items + ["[]"]:
+        if lines[-1] and len(indent + "∷ " + " ∷ ".join(lines[-1] + [item])) > WIDTH:
+            lines.append([])
+        lines[-1].append(item)
+    return [f"{indent}{'∷ ' if at else ''}{' ∷ '.join(line)}" for at, line in enumerate(lines)]
 
 
 def table_line(name, rule, is_shared=False):
     """The line of a rule by that name. Premises that are shared are called by their name."""
-    wants = field("wants", [says(*want) for want in rule.wants])
-    if is_shared:
-        wants = [f"    wants = {premises(rule)[0]} {' '.join(rule.parts)};"]
-    sides = field("sides", [says(*one) for one in rule.sides])
+    wants = [says(*want) for want in rule.wants]
+    sides = listed([says(*one) for one in rule.sides])
+    gives = f"⟹ {says(*rule.gives)}" + (f" when {sides}" if rule.sides else "")
     parts = f"λ {' '.join(rule.parts)}. " if rule.parts else ""
-    head, gives = f"  {name} = {parts}record {{", conclusion(*rule.gives)
-    line = f"{head} {' '.join(part.strip() for part in wants + sides + gives)[:-1]} }}"
-    return [line] if len(line) <= WIDTH else [head, *wants, *sides, *gives, "  }"]
-
-
-def conclusion(form, places):
-    """The field of a conclusion, a place a line where one line is too long."""
-    line = f"    gives = {says(form, places)};"
-    if len(line) <= WIDTH:
-        return [line]
-    first, *others = [said(place, True) for place in places]
-    return [f"    gives = {form} {first}", *(f"      {other}" for other in others[:-1]),
-            f"      {others[-1]};"]
+    called = f"{premises(rule)[0]} {' '.join(rule.parts)}"
+    head, first = f"  {name} = {parts}", called if is_shared else listed(wants)
+    for line in (f"{head}{first} {gives}", f"      {first} {gives}"):
+        if len(line) <= WIDTH:
+            return [line] if line.startswith(head) else [head.rstrip(), line]
+    wanted = [f"      {called}"] if is_shared else list_lines(wants, "      ")
+    return [head.rstrip(), *wanted, *filled(gives, "      ")]
 
 
 def premises(rule):
@@ -106,7 +102,7 @@ def premises_lines(rule):
     line = f"{head} {listed(wants)}"
     return [f"  -- the premises of {rule.name}",
             f"  abbrev pub {name} : {takes} → List (JudgementOf L)",
-            *([line] if len(line) <= WIDTH else [head, *item_lines(wants)]), ""]
+            *([line] if len(line) <= WIDTH else [head, *list_lines(wants, "      ")]), ""]
 
 
 def comment(rule):

@@ -48,9 +48,18 @@ use Rattle.theory.specs.declared.rule.RuleName.{RuleName}
 use Rattle.theory.specs.declared.rule.RuleName.TheVariants.{Contexts, Instances, Equality, Universe}
 use Rattle.theory.specs.declared.rule.RuleName.TheVariants.{Pi, Sigma, Paths, Naturals, Systems}
 use Rattle.theory.specs.declared.rule.RuleName.TheVariants.{Composition, Gluing}
-use Rattle.trees.specs.Language.{Language, JudgementOf, Rule, Ctx, Ty, TyEq, Tm, TmEq, Sb}
-use Rattle.trees.specs.Language.{IsFormula, IsFace, Holds, Alike}
+use Rattle.trees.specs.Language.{Language, Judged, Tested, RuleOf, JudgementOf, Rule, Ctx, Ty, TyEq}
+use Rattle.trees.specs.Language.{Tm, TmEq, Sb, IsFormula, IsFace, Holds, Alike}
 use Rattle.theory.specs.RuleNames.{kinds_of}
+
+-- A rule wants its premises and gives its conclusion, when its side conditions hold.
+infix 15 ◌⟹◌
+infix 14 ◌when◌
+abbrev pub ◌⟹◌ : {C T S : Type 0} → List (Judged C T S) → Judged C T S → RuleOf C T S
+premises ⟹ conclusion = record { wants = premises; sides = []; gives = conclusion }
+
+abbrev pub ◌when◌ : {C T S : Type 0} → RuleOf C T S → List (Tested C T S) → RuleOf C T S
+r when conditions = record { wants = r.wants; sides = conditions; gives = r.gives }
 
 -- a side of a system: a face, and a tree where it holds
 pub record Side (T : Type 0) : Type 0 where
@@ -461,248 +470,128 @@ module _ (L : Language) where
 
   -- F.ty | G A B | G >> A; G.A >> B | G >> F A B
   abbrev pub former_ty : (tree → tree → tree) → Over (kinds_of (Pi PiTy))
-  former_ty F = λ G A B. record {
-    wants = Ty G A ∷ Ty (with_var G A) B ∷ [];
-    sides = [];
-    gives = Ty G (F A B);
-  }
+  former_ty F = λ G A B. Ty G A ∷ Ty (with_var G A) B ∷ [] ⟹ Ty G (F A B)
 
   -- F.u | G A B | G >> A : U; G.A >> B : U | G >> F A B : U
   abbrev pub former_u : (tree → tree → tree) → Over (kinds_of (Pi PiU))
-  former_u F = λ G A B. record {
-    wants = Tm G A universe ∷ Tm (with_var G A) B universe ∷ [];
-    sides = [];
-    gives = Tm G (F A B) universe;
-  }
+  former_u F = λ G A B. Tm G A universe ∷ Tm (with_var G A) B universe ∷ [] ⟹ Tm G (F A B) universe
 
   -- F.tycong | G A C B D | G >> A = C; G.A >> B = D | G >> F A B = F C D
   abbrev pub former_tycong : (tree → tree → tree) → Over (kinds_of (Pi PiTyCong))
-  former_tycong F = λ G A C B D. record {
-    wants = TyEq G A C ∷ TyEq (with_var G A) B D ∷ [];
-    sides = [];
-    gives = TyEq G (F A B) (F C D);
-  }
+  former_tycong F = λ G A C B D. TyEq G A C ∷ TyEq (with_var G A) B D ∷ [] ⟹ TyEq G (F A B) (F C D)
 
   -- F.ucong | G A C B D | G >> A = C : U; G.A >> B = D : U | G >> F A B = F C D : U
   abbrev pub former_ucong : (tree → tree → tree) → Over (kinds_of (Pi PiUCong))
-  former_ucong F = λ G A C B D. record {
-    wants = TmEq G A C universe ∷ TmEq (with_var G A) B D universe ∷ [];
-    sides = [];
-    gives = TmEq G (F A B) (F C D) universe;
-  }
+  former_ucong F = λ G A C B D.
+      TmEq G A C universe ∷ TmEq (with_var G A) B D universe ∷ [] ⟹ TmEq G (F A B) (F C D) universe
 
   -- The rules that conclude a context or a substitution.
 
   abbrev pub context_rule : (name : ContextRule) → Over (kinds_of (Contexts name))
   -- ctx.nil | | | ctx []
-  context_rule CtxNil = record { wants = []; sides = []; gives = Ctx nil }
+  context_rule CtxNil = [] ⟹ Ctx nil
   -- ctx.var | G A | G >> A | ctx G.A
-  context_rule CtxVar = λ G A. record {
-    wants = Ty G A ∷ [];
-    sides = [];
-    gives = Ctx (with_var G A);
-  }
+  context_rule CtxVar = λ G A. Ty G A ∷ [] ⟹ Ctx (with_var G A)
   -- ctx.name | G | ctx G | ctx G.I
-  context_rule CtxName = λ G. record { wants = Ctx G ∷ []; sides = []; gives = Ctx (with_name G) }
+  context_rule CtxName = λ G. Ctx G ∷ [] ⟹ Ctx (with_name G)
   -- ctx.face | G p | ctx G if IsFace(G, p) | ctx G.p
-  context_rule CtxFace = λ G p. record {
-    wants = Ctx G ∷ [];
-    sides = IsFace G p ∷ [];
-    gives = Ctx (with_face G p);
-  }
+  context_rule CtxFace = λ G p. Ctx G ∷ [] ⟹ Ctx (with_face G p) when IsFace G p ∷ []
   -- sub.id | G | ctx G | id : G to G
-  context_rule SubId = λ G. record { wants = Ctx G ∷ []; sides = []; gives = Sb G id G }
+  context_rule SubId = λ G. Ctx G ∷ [] ⟹ Sb G id G
   -- sub.wk | H d G A | d : H to G; H >> A | d then up : H.A to G
-  context_rule SubWk = λ H d G A. record {
-    wants = Sb H d G ∷ Ty H A ∷ [];
-    sides = [];
-    gives = Sb (with_var H A) (then d up) G;
-  }
+  context_rule SubWk = λ H d G A. Sb H d G ∷ Ty H A ∷ [] ⟹ Sb (with_var H A) (then d up) G
   -- sub.wkname | H d G | d : H to G | d then up : H.I to G
-  context_rule SubWkName = λ H d G. record {
-    wants = Sb H d G ∷ [];
-    sides = [];
-    gives = Sb (with_name H) (then d up) G;
-  }
+  context_rule SubWkName = λ H d G. Sb H d G ∷ [] ⟹ Sb (with_name H) (then d up) G
   -- sub.wkface | H d G p | d : H to G if IsFace(H, p) | d : H.p to G
-  context_rule SubWkFace = λ H d G p. record {
-    wants = Sb H d G ∷ [];
-    sides = IsFace H p ∷ [];
-    gives = Sb (with_face H p) d G;
-  }
+  context_rule SubWkFace = λ H d G p. Sb H d G ∷ [] ⟹ Sb (with_face H p) d G when IsFace H p ∷ []
   -- sub.var | H d G A a | d : H to G; G >> A; H >> a : A[d] | push d a : H to G.A
-  context_rule SubVar = λ H d G A a. record {
-    wants = Sb H d G ∷ Ty G A ∷ Tm H a (apply A d) ∷ [];
-    sides = [];
-    gives = Sb H (push d a) (with_var G A);
-  }
+  context_rule SubVar = λ H d G A a.
+      Sb H d G ∷ Ty G A ∷ Tm H a (apply A d) ∷ [] ⟹ Sb H (push d a) (with_var G A)
   -- sub.form | H d G r | d : H to G if IsFormula(H, r) | push d r : H to G.I
-  context_rule SubForm = λ H d G r. record {
-    wants = Sb H d G ∷ [];
-    sides = IsFormula H r ∷ [];
-    gives = Sb H (push d r) (with_name G);
-  }
+  context_rule SubForm = λ H d G r.
+      Sb H d G ∷ [] ⟹ Sb H (push d r) (with_name G) when IsFormula H r ∷ []
   -- sub.face | H d G p | d : H to G if IsFace(G, p), Holds(H, p[d]) | d : H to G.p
-  context_rule SubFace = λ H d G p. record {
-    wants = Sb H d G ∷ [];
-    sides = IsFace G p ∷ Holds H (apply p d) ∷ [];
-    gives = Sb H d (with_face G p);
-  }
+  context_rule SubFace = λ H d G p.
+      Sb H d G ∷ [] ⟹ Sb H d (with_face G p) when IsFace G p ∷ Holds H (apply p d) ∷ []
   -- sub.comp | K e H d G | e : K to H; d : H to G | d then e : K to G
-  context_rule SubComp = λ K e H d G. record {
-    wants = Sb K e H ∷ Sb H d G ∷ [];
-    sides = [];
-    gives = Sb K (then d e) G;
-  }
+  context_rule SubComp = λ K e H d G. Sb K e H ∷ Sb H d G ∷ [] ⟹ Sb K (then d e) G
 
   -- The rules that apply a substitution, and that of the variable.
 
   abbrev pub instance_rule : (name : InstanceRule) → Over (kinds_of (Instances name))
   -- ty.sub | H d G A | d : H to G; G >> A | H >> A[d]
-  instance_rule TySub = λ H d G A. record {
-    wants = Sb H d G ∷ Ty G A ∷ [];
-    sides = [];
-    gives = Ty H (apply A d);
-  }
+  instance_rule TySub = λ H d G A. Sb H d G ∷ Ty G A ∷ [] ⟹ Ty H (apply A d)
   -- tyeq.sub | H d G A B | d : H to G; G >> A = B | H >> A[d] = B[d]
-  instance_rule TyEqSub = λ H d G A B. record {
-    wants = Sb H d G ∷ TyEq G A B ∷ [];
-    sides = [];
-    gives = TyEq H (apply A d) (apply B d);
-  }
+  instance_rule TyEqSub = λ H d G A B. Sb H d G ∷ TyEq G A B ∷ [] ⟹ TyEq H (apply A d) (apply B d)
   -- tm.sub | H d G a A | d : H to G; G >> a : A | H >> a[d] : A[d]
-  instance_rule TmSub = λ H d G a A. record {
-    wants = Sb H d G ∷ Tm G a A ∷ [];
-    sides = [];
-    gives = Tm H (apply a d) (apply A d);
-  }
+  instance_rule TmSub = λ H d G a A. Sb H d G ∷ Tm G a A ∷ [] ⟹ Tm H (apply a d) (apply A d)
   -- tmeq.sub | H d G a b A | d : H to G; G >> a = b : A | H >> a[d] = b[d] : A[d]
-  instance_rule TmEqSub = λ H d G a b A. record {
-    wants = Sb H d G ∷ TmEq G a b A ∷ [];
-    sides = [];
-    gives = TmEq H (apply a d) (apply b d) (apply A d);
-  }
+  instance_rule TmEqSub = λ H d G a b A.
+      Sb H d G ∷ TmEq G a b A ∷ [] ⟹ TmEq H (apply a d) (apply b d) (apply A d)
   -- ty.cong | H d G A a b B | d : H to G; G.A >> B; H >> a = b : A[d]
   --   | H >> B[push d a] = B[push d b]
-  instance_rule TyCong = λ H d G A a b B. record {
-    wants = Sb H d G ∷ Ty (with_var G A) B ∷ TmEq H a b (apply A d) ∷ [];
-    sides = [];
-    gives = TyEq H (apply B (push d a)) (apply B (push d b));
-  }
+  instance_rule TyCong = λ H d G A a b B.
+      Sb H d G ∷ Ty (with_var G A) B ∷ TmEq H a b (apply A d) ∷ []
+      ⟹ TyEq H (apply B (push d a)) (apply B (push d b))
   -- tm.cong | H d G A a b c B | d : H to G; G.A >> c : B; H >> a = b : A[d]
   --   | H >> c[push d a] = c[push d b] : B[push d a]
-  instance_rule TmCong = λ H d G A a b c B. record {
-    wants = Sb H d G ∷ Tm (with_var G A) c B ∷ TmEq H a b (apply A d) ∷ [];
-    sides = [];
-    gives = TmEq H (apply c (push d a)) (apply c (push d b)) (apply B (push d a));
-  }
+  instance_rule TmCong = λ H d G A a b c B.
+      Sb H d G ∷ Tm (with_var G A) c B ∷ TmEq H a b (apply A d) ∷ []
+      ⟹ TmEq H (apply c (push d a)) (apply c (push d b)) (apply B (push d a))
   -- ty.int | H d e G B | d : H to G; e : H to G; G >> B if Alike(H, d, e) | H >> B[d] = B[e]
-  instance_rule TyInt = λ H d e G B. record {
-    wants = Sb H d G ∷ Sb H e G ∷ Ty G B ∷ [];
-    sides = Alike H d e ∷ [];
-    gives = TyEq H (apply B d) (apply B e);
-  }
+  instance_rule TyInt = λ H d e G B.
+      Sb H d G ∷ Sb H e G ∷ Ty G B ∷ [] ⟹ TyEq H (apply B d) (apply B e) when Alike H d e ∷ []
   -- tm.int | H d e G c B | d : H to G; e : H to G; G >> c : B if Alike(H, d, e)
   --   | H >> c[d] = c[e] : B[d]
-  instance_rule TmInt = λ H d e G c B. record {
-    wants = Sb H d G ∷ Sb H e G ∷ Tm G c B ∷ [];
-    sides = Alike H d e ∷ [];
-    gives = TmEq H (apply c d) (apply c e) (apply B d);
-  }
+  instance_rule TmInt = λ H d e G c B.
+      Sb H d G ∷ Sb H e G ∷ Tm G c B ∷ []
+      ⟹ TmEq H (apply c d) (apply c e) (apply B d) when Alike H d e ∷ []
   -- tm.var | G A | G >> A | G.A >> var 0 : A+
-  instance_rule TmVar = λ G A. record {
-    wants = Ty G A ∷ [];
-    sides = [];
-    gives = Tm (with_var G A) (var 0) (weakened A);
-  }
+  instance_rule TmVar = λ G A. Ty G A ∷ [] ⟹ Tm (with_var G A) (var 0) (weakened A)
 
   -- The rules of equality: an equivalence, kept by conversion, and decided on faces that cover all.
 
   abbrev pub equality_rule : (name : EqualityRule) → Over (kinds_of (Equality name))
   -- tyeq.refl | G A | G >> A | G >> A = A
-  equality_rule TyEqRefl = λ G A. record { wants = Ty G A ∷ []; sides = []; gives = TyEq G A A }
+  equality_rule TyEqRefl = λ G A. Ty G A ∷ [] ⟹ TyEq G A A
   -- tyeq.sym | G A B | G >> A = B | G >> B = A
-  equality_rule TyEqSym = λ G A B. record {
-    wants = TyEq G A B ∷ [];
-    sides = [];
-    gives = TyEq G B A;
-  }
+  equality_rule TyEqSym = λ G A B. TyEq G A B ∷ [] ⟹ TyEq G B A
   -- tyeq.trans | G A B C | G >> A = B; G >> B = C | G >> A = C
-  equality_rule TyEqTrans = λ G A B C. record {
-    wants = TyEq G A B ∷ TyEq G B C ∷ [];
-    sides = [];
-    gives = TyEq G A C;
-  }
+  equality_rule TyEqTrans = λ G A B C. TyEq G A B ∷ TyEq G B C ∷ [] ⟹ TyEq G A C
   -- tmeq.refl | G a A | G >> a : A | G >> a = a : A
-  equality_rule TmEqRefl = λ G a A. record {
-    wants = Tm G a A ∷ [];
-    sides = [];
-    gives = TmEq G a a A;
-  }
+  equality_rule TmEqRefl = λ G a A. Tm G a A ∷ [] ⟹ TmEq G a a A
   -- tmeq.sym | G a b A | G >> a = b : A | G >> b = a : A
-  equality_rule TmEqSym = λ G a b A. record {
-    wants = TmEq G a b A ∷ [];
-    sides = [];
-    gives = TmEq G b a A;
-  }
+  equality_rule TmEqSym = λ G a b A. TmEq G a b A ∷ [] ⟹ TmEq G b a A
   -- tmeq.trans | G a b c A | G >> a = b : A; G >> b = c : A | G >> a = c : A
-  equality_rule TmEqTrans = λ G a b c A. record {
-    wants = TmEq G a b A ∷ TmEq G b c A ∷ [];
-    sides = [];
-    gives = TmEq G a c A;
-  }
+  equality_rule TmEqTrans = λ G a b c A. TmEq G a b A ∷ TmEq G b c A ∷ [] ⟹ TmEq G a c A
   -- tm.conv | G a A B | G >> a : A; G >> A = B | G >> a : B
-  equality_rule TmConv = λ G a A B. record {
-    wants = Tm G a A ∷ TyEq G A B ∷ [];
-    sides = [];
-    gives = Tm G a B;
-  }
+  equality_rule TmConv = λ G a A B. Tm G a A ∷ TyEq G A B ∷ [] ⟹ Tm G a B
   -- tmeq.conv | G a b A B | G >> a = b : A; G >> A = B | G >> a = b : B
-  equality_rule TmEqConv = λ G a b A B. record {
-    wants = TmEq G a b A ∷ TyEq G A B ∷ [];
-    sides = [];
-    gives = TmEq G a b B;
-  }
+  equality_rule TmEqConv = λ G a b A B. TmEq G a b A ∷ TyEq G A B ∷ [] ⟹ TmEq G a b B
   -- tyeq.cover | G p q A B | G >> A; G >> B; G.p >> A = B; G.q >> A = B
   --   if IsFace(G, p), IsFace(G, q), Holds(G, join p q) | G >> A = B
-  equality_rule TyEqCover = λ G p q A B. record {
-    wants = Ty G A ∷ Ty G B ∷ TyEq (with_face G p) A B ∷ TyEq (with_face G q) A B ∷ [];
-    sides = IsFace G p ∷ IsFace G q ∷ Holds G (join p q) ∷ [];
-    gives = TyEq G A B;
-  }
+  equality_rule TyEqCover = λ G p q A B.
+      Ty G A ∷ Ty G B ∷ TyEq (with_face G p) A B ∷ TyEq (with_face G q) A B ∷ []
+      ⟹ TyEq G A B when IsFace G p ∷ IsFace G q ∷ Holds G (join p q) ∷ []
   -- tmeq.cover | G p q a b A | G >> a : A; G >> b : A; G.p >> a = b : A; G.q >> a = b : A
   --   if IsFace(G, p), IsFace(G, q), Holds(G, join p q) | G >> a = b : A
-  equality_rule TmEqCover = λ G p q a b A. record {
-    wants = Tm G a A ∷ Tm G b A ∷ TmEq (with_face G p) a b A ∷ TmEq (with_face G q) a b A ∷ [];
-    sides = IsFace G p ∷ IsFace G q ∷ Holds G (join p q) ∷ [];
-    gives = TmEq G a b A;
-  }
+  equality_rule TmEqCover = λ G p q a b A.
+      Tm G a A ∷ Tm G b A ∷ TmEq (with_face G p) a b A ∷ TmEq (with_face G q) a b A ∷ []
+      ⟹ TmEq G a b A when IsFace G p ∷ IsFace G q ∷ Holds G (join p q) ∷ []
   -- tyeq.absurd | G A B | G >> A; G >> B if Holds(G, f0) | G >> A = B
-  equality_rule TyEqAbsurd = λ G A B. record {
-    wants = Ty G A ∷ Ty G B ∷ [];
-    sides = Holds G f0 ∷ [];
-    gives = TyEq G A B;
-  }
+  equality_rule TyEqAbsurd = λ G A B. Ty G A ∷ Ty G B ∷ [] ⟹ TyEq G A B when Holds G f0 ∷ []
   -- tmeq.absurd | G a b A | G >> a : A; G >> b : A if Holds(G, f0) | G >> a = b : A
-  equality_rule TmEqAbsurd = λ G a b A. record {
-    wants = Tm G a A ∷ Tm G b A ∷ [];
-    sides = Holds G f0 ∷ [];
-    gives = TmEq G a b A;
-  }
+  equality_rule TmEqAbsurd = λ G a b A. Tm G a A ∷ Tm G b A ∷ [] ⟹ TmEq G a b A when Holds G f0 ∷ []
 
   -- The rules of the universe.
 
   abbrev pub universe_rule : (name : UniverseRule) → Over (kinds_of (Universe name))
   -- ty.univ | G | ctx G | G >> U
-  universe_rule TyUniv = λ G. record { wants = Ctx G ∷ []; sides = []; gives = Ty G universe }
+  universe_rule TyUniv = λ G. Ctx G ∷ [] ⟹ Ty G universe
   -- ty.u | G A | G >> A : U | G >> A
-  universe_rule TyU = λ G A. record { wants = Tm G A universe ∷ []; sides = []; gives = Ty G A }
+  universe_rule TyU = λ G A. Tm G A universe ∷ [] ⟹ Ty G A
   -- tyeq.u | G A B | G >> A = B : U | G >> A = B
-  universe_rule TyEqU = λ G A B. record {
-    wants = TmEq G A B universe ∷ [];
-    sides = [];
-    gives = TyEq G A B;
-  }
+  universe_rule TyEqU = λ G A B. TmEq G A B universe ∷ [] ⟹ TyEq G A B
 
   -- The rules of functions.
 
@@ -716,40 +605,21 @@ module _ (L : Language) where
   -- pi.ucong | G A C B D | G >> A = C : U; G.A >> B = D : U | G >> pi A B = pi C D : U
   pi_rule PiUCong = former_ucong pi
   -- lam | G A b B | G >> A; G.A >> b : B | G >> lam A b : pi A B
-  pi_rule Lam = λ G A b B. record {
-    wants = Ty G A ∷ Tm (with_var G A) b B ∷ [];
-    sides = [];
-    gives = Tm G (lam A b) (pi A B);
-  }
+  pi_rule Lam = λ G A b B. Ty G A ∷ Tm (with_var G A) b B ∷ [] ⟹ Tm G (lam A b) (pi A B)
   -- app | G f a A B | G >> f : pi A B; G >> a : A | G >> app f a : B{a}
-  pi_rule App = λ G f a A B. record {
-    wants = Tm G f (pi A B) ∷ Tm G a A ∷ [];
-    sides = [];
-    gives = Tm G (app f a) (at B a);
-  }
+  pi_rule App = λ G f a A B. Tm G f (pi A B) ∷ Tm G a A ∷ [] ⟹ Tm G (app f a) (at B a)
   -- app.cong | G f g a b A B | G >> f = g : pi A B; G >> a = b : A | G >> app f a = app g b : B{a}
-  pi_rule AppCong = λ G f g a b A B. record {
-    wants = TmEq G f g (pi A B) ∷ TmEq G a b A ∷ [];
-    sides = [];
-    gives = TmEq G (app f a) (app g b) (at B a);
-  }
+  pi_rule AppCong = λ G f g a b A B.
+      TmEq G f g (pi A B) ∷ TmEq G a b A ∷ [] ⟹ TmEq G (app f a) (app g b) (at B a)
   -- pi.beta | G A b a B | G.A >> b : B; G >> a : A | G >> app (lam A b) a = b{a} : B{a}
-  pi_rule PiBeta = λ G A b a B. record {
-    wants = Tm (with_var G A) b B ∷ Tm G a A ∷ [];
-    sides = [];
-    gives = TmEq G (app (lam A b) a) (at b a) (at B a);
-  }
+  pi_rule PiBeta = λ G A b a B.
+      Tm (with_var G A) b B ∷ Tm G a A ∷ [] ⟹ TmEq G (app (lam A b) a) (at b a) (at B a)
   -- pi.eta | G f g A B | G >> f : pi A B; G >> g : pi A B;
   --   G.A >> app f+ (var 0) = app g+ (var 0) : B | G >> f = g : pi A B
-  pi_rule PiEta = λ G f g A B. record {
-    wants =
-        Tm G f (pi A B)
-        ∷ Tm G g (pi A B)
-        ∷ TmEq (with_var G A) (app (weakened f) (var 0)) (app (weakened g) (var 0)) B
-        ∷ [];
-    sides = [];
-    gives = TmEq G f g (pi A B);
-  }
+  pi_rule PiEta = λ G f g A B.
+      Tm G f (pi A B) ∷ Tm G g (pi A B)
+      ∷ TmEq (with_var G A) (app (weakened f) (var 0)) (app (weakened g) (var 0)) B ∷ []
+      ⟹ TmEq G f g (pi A B)
 
   -- The rules of pairs.
 
@@ -767,405 +637,240 @@ module _ (L : Language) where
   -- sig.ucong | G A C B D | G >> A = C : U; G.A >> B = D : U | G >> sig A B = sig C D : U
   sigma_rule SigUCong = former_ucong sig
   -- pair | G a b A B | G.A >> B; G >> a : A; G >> b : B{a} | G >> pair a b : sig A B
-  sigma_rule Pair = λ G a b A B. record {
-    wants = pair_wants G a b A B;
-    sides = [];
-    gives = Tm G (pair a b) (sig A B);
-  }
+  sigma_rule Pair = λ G a b A B. pair_wants G a b A B ⟹ Tm G (pair a b) (sig A B)
   -- fst | G c A B | G >> c : sig A B | G >> fst c : A
-  sigma_rule Fst = λ G c A B. record {
-    wants = Tm G c (sig A B) ∷ [];
-    sides = [];
-    gives = Tm G (fst c) A;
-  }
+  sigma_rule Fst = λ G c A B. Tm G c (sig A B) ∷ [] ⟹ Tm G (fst c) A
   -- snd | G c A B | G >> c : sig A B | G >> snd c : B{fst c}
-  sigma_rule Snd = λ G c A B. record {
-    wants = Tm G c (sig A B) ∷ [];
-    sides = [];
-    gives = Tm G (snd c) (at B (fst c));
-  }
+  sigma_rule Snd = λ G c A B. Tm G c (sig A B) ∷ [] ⟹ Tm G (snd c) (at B (fst c))
   -- fst.cong | G c k A B | G >> c = k : sig A B | G >> fst c = fst k : A
-  sigma_rule FstCong = λ G c k A B. record {
-    wants = TmEq G c k (sig A B) ∷ [];
-    sides = [];
-    gives = TmEq G (fst c) (fst k) A;
-  }
+  sigma_rule FstCong = λ G c k A B. TmEq G c k (sig A B) ∷ [] ⟹ TmEq G (fst c) (fst k) A
   -- snd.cong | G c k A B | G >> c = k : sig A B | G >> snd c = snd k : B{fst c}
-  sigma_rule SndCong = λ G c k A B. record {
-    wants = TmEq G c k (sig A B) ∷ [];
-    sides = [];
-    gives = TmEq G (snd c) (snd k) (at B (fst c));
-  }
+  sigma_rule SndCong = λ G c k A B.
+      TmEq G c k (sig A B) ∷ [] ⟹ TmEq G (snd c) (snd k) (at B (fst c))
   -- sig.beta1 | G a b A B | premises of pair | G >> fst (pair a b) = a : A
-  sigma_rule SigBeta1 = λ G a b A B. record {
-    wants = pair_wants G a b A B;
-    sides = [];
-    gives = TmEq G (fst (pair a b)) a A;
-  }
+  sigma_rule SigBeta1 = λ G a b A B. pair_wants G a b A B ⟹ TmEq G (fst (pair a b)) a A
   -- sig.beta2 | G a b A B | premises of pair | G >> snd (pair a b) = b : B{a}
-  sigma_rule SigBeta2 = λ G a b A B. record {
-    wants = pair_wants G a b A B;
-    sides = [];
-    gives = TmEq G (snd (pair a b)) b (at B a);
-  }
+  sigma_rule SigBeta2 = λ G a b A B. pair_wants G a b A B ⟹ TmEq G (snd (pair a b)) b (at B a)
   -- sig.eta | G c k A B | G >> c : sig A B; G >> k : sig A B; G >> fst c = fst k : A;
   --   G >> snd c = snd k : B{fst c} | G >> c = k : sig A B
-  sigma_rule SigEta = λ G c k A B. record {
-    wants =
-        Tm G c (sig A B)
-        ∷ Tm G k (sig A B)
-        ∷ TmEq G (fst c) (fst k) A
-        ∷ TmEq G (snd c) (snd k) (at B (fst c))
-        ∷ [];
-    sides = [];
-    gives = TmEq G c k (sig A B);
-  }
+  sigma_rule SigEta = λ G c k A B.
+      Tm G c (sig A B) ∷ Tm G k (sig A B) ∷ TmEq G (fst c) (fst k) A
+      ∷ TmEq G (snd c) (snd k) (at B (fst c)) ∷ []
+      ⟹ TmEq G c k (sig A B)
 
   -- The rules of paths.
 
   abbrev pub path_rule : (name : PathRule) → Over (kinds_of (Paths name))
   -- path.ty | G A u v | G.I >> A; G >> u : A{0}; G >> v : A{1} | G >> pathp A u v
-  path_rule PathTy = λ G A u v. record {
-    wants = Ty (with_name G) A ∷ Tm G u (at A i0) ∷ Tm G v (at A i1) ∷ [];
-    sides = [];
-    gives = Ty G (pathp A u v);
-  }
+  path_rule PathTy = λ G A u v.
+      Ty (with_name G) A ∷ Tm G u (at A i0) ∷ Tm G v (at A i1) ∷ [] ⟹ Ty G (pathp A u v)
   -- path.u | G A u v | G.I >> A : U; G >> u : A{0}; G >> v : A{1} | G >> pathp A u v : U
-  path_rule PathU = λ G A u v. record {
-    wants = Tm (with_name G) A universe ∷ Tm G u (at A i0) ∷ Tm G v (at A i1) ∷ [];
-    sides = [];
-    gives = Tm G (pathp A u v) universe;
-  }
+  path_rule PathU = λ G A u v.
+      Tm (with_name G) A universe ∷ Tm G u (at A i0) ∷ Tm G v (at A i1) ∷ []
+      ⟹ Tm G (pathp A u v) universe
   -- path.tycong | G A B u x v y | G.I >> A = B; G >> u = x : A{0}; G >> v = y : A{1}
   --   | G >> pathp A u v = pathp B x y
-  path_rule PathTyCong = λ G A B u x v y. record {
-    wants = TyEq (with_name G) A B ∷ TmEq G u x (at A i0) ∷ TmEq G v y (at A i1) ∷ [];
-    sides = [];
-    gives = TyEq G (pathp A u v) (pathp B x y);
-  }
+  path_rule PathTyCong = λ G A B u x v y.
+      TyEq (with_name G) A B ∷ TmEq G u x (at A i0) ∷ TmEq G v y (at A i1) ∷ []
+      ⟹ TyEq G (pathp A u v) (pathp B x y)
   -- path.ucong | G A B u x v y | G.I >> A = B : U; G >> u = x : A{0}; G >> v = y : A{1}
   --   | G >> pathp A u v = pathp B x y : U
-  path_rule PathUCong = λ G A B u x v y. record {
-    wants = TmEq (with_name G) A B universe ∷ TmEq G u x (at A i0) ∷ TmEq G v y (at A i1) ∷ [];
-    sides = [];
-    gives = TmEq G (pathp A u v) (pathp B x y) universe;
-  }
+  path_rule PathUCong = λ G A B u x v y.
+      TmEq (with_name G) A B universe ∷ TmEq G u x (at A i0) ∷ TmEq G v y (at A i1) ∷ []
+      ⟹ TmEq G (pathp A u v) (pathp B x y) universe
   -- plam | G A b u v | G.I >> b : A; G >> b{0} = u : A{0}; G >> b{1} = v : A{1}
   --   | G >> plam b : pathp A u v
-  path_rule PLam = λ G A b u v. record {
-    wants = Tm (with_name G) b A ∷ TmEq G (at b i0) u (at A i0) ∷ TmEq G (at b i1) v (at A i1) ∷ [];
-    sides = [];
-    gives = Tm G (plam b) (pathp A u v);
-  }
+  path_rule PLam = λ G A b u v.
+      Tm (with_name G) b A ∷ TmEq G (at b i0) u (at A i0) ∷ TmEq G (at b i1) v (at A i1) ∷ []
+      ⟹ Tm G (plam b) (pathp A u v)
   -- papp | G c r A u v | G >> c : pathp A u v if IsFormula(G, r) | G >> papp c r : A{r}
-  path_rule PApp = λ G c r A u v. record {
-    wants = Tm G c (pathp A u v) ∷ [];
-    sides = IsFormula G r ∷ [];
-    gives = Tm G (papp c r) (at A r);
-  }
+  path_rule PApp = λ G c r A u v.
+      Tm G c (pathp A u v) ∷ [] ⟹ Tm G (papp c r) (at A r) when IsFormula G r ∷ []
   -- papp.cong | G c k r A u v | G >> c = k : pathp A u v if IsFormula(G, r)
   --   | G >> papp c r = papp k r : A{r}
-  path_rule PAppCong = λ G c k r A u v. record {
-    wants = TmEq G c k (pathp A u v) ∷ [];
-    sides = IsFormula G r ∷ [];
-    gives = TmEq G (papp c r) (papp k r) (at A r);
-  }
+  path_rule PAppCong = λ G c k r A u v.
+      TmEq G c k (pathp A u v) ∷ [] ⟹ TmEq G (papp c r) (papp k r) (at A r) when IsFormula G r ∷ []
   -- path.left | G c A u v | G >> c : pathp A u v | G >> papp c i0 = u : A{0}
-  path_rule PathLeft = λ G c A u v. record {
-    wants = Tm G c (pathp A u v) ∷ [];
-    sides = [];
-    gives = TmEq G (papp c i0) u (at A i0);
-  }
+  path_rule PathLeft = λ G c A u v. Tm G c (pathp A u v) ∷ [] ⟹ TmEq G (papp c i0) u (at A i0)
   -- path.right | G c A u v | G >> c : pathp A u v | G >> papp c i1 = v : A{1}
-  path_rule PathRight = λ G c A u v. record {
-    wants = Tm G c (pathp A u v) ∷ [];
-    sides = [];
-    gives = TmEq G (papp c i1) v (at A i1);
-  }
+  path_rule PathRight = λ G c A u v. Tm G c (pathp A u v) ∷ [] ⟹ TmEq G (papp c i1) v (at A i1)
   -- path.beta | G A b r | G.I >> b : A if IsFormula(G, r) | G >> papp (plam b) r = b{r} : A{r}
-  path_rule PathBeta = λ G A b r. record {
-    wants = Tm (with_name G) b A ∷ [];
-    sides = IsFormula G r ∷ [];
-    gives = TmEq G (papp (plam b) r) (at b r) (at A r);
-  }
+  path_rule PathBeta = λ G A b r.
+      Tm (with_name G) b A ∷ [] ⟹ TmEq G (papp (plam b) r) (at b r) (at A r) when IsFormula G r ∷ []
   -- path.eta | G c k A u v | G >> c : pathp A u v; G >> k : pathp A u v;
   --   G.I >> papp c+ (var 0) = papp k+ (var 0) : A | G >> c = k : pathp A u v
-  path_rule PathEta = λ G c k A u v. record {
-    wants =
-        Tm G c (pathp A u v)
-        ∷ Tm G k (pathp A u v)
-        ∷ TmEq (with_name G) (papp (weakened c) (var 0)) (papp (weakened k) (var 0)) A
-        ∷ [];
-    sides = [];
-    gives = TmEq G c k (pathp A u v);
-  }
+  path_rule PathEta = λ G c k A u v.
+      Tm G c (pathp A u v) ∷ Tm G k (pathp A u v)
+      ∷ TmEq (with_name G) (papp (weakened c) (var 0)) (papp (weakened k) (var 0)) A ∷ []
+      ⟹ TmEq G c k (pathp A u v)
 
   -- The rules of the natural numbers.
 
   -- the premises of natrec
   abbrev pub natrec_wants : context → tree → tree → tree → tree → List (JudgementOf L)
   natrec_wants G P a b n =
-      Ty (with_var G nat) P
-      ∷ Tm G a (at P zero)
-      ∷ Tm G b (motive_step P)
-      ∷ Tm G n nat
-      ∷ []
+      Ty (with_var G nat) P ∷ Tm G a (at P zero) ∷ Tm G b (motive_step P) ∷ Tm G n nat ∷ []
 
   abbrev pub nat_rule : (name : NatRule) → Over (kinds_of (Naturals name))
   -- nat.u | G | ctx G | G >> nat : U
-  nat_rule NatU = λ G. record { wants = Ctx G ∷ []; sides = []; gives = Tm G nat universe }
+  nat_rule NatU = λ G. Ctx G ∷ [] ⟹ Tm G nat universe
   -- zero | G | ctx G | G >> zero : nat
-  nat_rule Zero = λ G. record { wants = Ctx G ∷ []; sides = []; gives = Tm G zero nat }
+  nat_rule Zero = λ G. Ctx G ∷ [] ⟹ Tm G zero nat
   -- suc | G n | G >> n : nat | G >> suc n : nat
-  nat_rule Suc = λ G n. record { wants = Tm G n nat ∷ []; sides = []; gives = Tm G (suc n) nat }
+  nat_rule Suc = λ G n. Tm G n nat ∷ [] ⟹ Tm G (suc n) nat
   -- suc.cong | G n m | G >> n = m : nat | G >> suc n = suc m : nat
-  nat_rule SucCong = λ G n m. record {
-    wants = TmEq G n m nat ∷ [];
-    sides = [];
-    gives = TmEq G (suc n) (suc m) nat;
-  }
+  nat_rule SucCong = λ G n m. TmEq G n m nat ∷ [] ⟹ TmEq G (suc n) (suc m) nat
   -- natrec | G P a b n | G.nat >> P; G >> a : P{zero}; G >> b : motive_step P; G >> n : nat
   --   | G >> natrec P a b n : P{n}
-  nat_rule NatRec = λ G P a b n. record {
-    wants = natrec_wants G P a b n;
-    sides = [];
-    gives = Tm G (natrec P a b n) (at P n);
-  }
+  nat_rule NatRec = λ G P a b n. natrec_wants G P a b n ⟹ Tm G (natrec P a b n) (at P n)
   -- natrec.cong | G P Q a c b k n m | G.nat >> P = Q; G >> a = c : P{zero};
   --   G >> b = k : motive_step P; G >> n = m : nat
   --   | G >> natrec P a b n = natrec Q c k m : P{n}
-  nat_rule NatRecCong = λ G P Q a c b k n m. record {
-    wants =
-        TyEq (with_var G nat) P Q
-        ∷ TmEq G a c (at P zero)
-        ∷ TmEq G b k (motive_step P)
-        ∷ TmEq G n m nat
-        ∷ [];
-    sides = [];
-    gives = TmEq G (natrec P a b n) (natrec Q c k m) (at P n);
-  }
+  nat_rule NatRecCong = λ G P Q a c b k n m.
+      TyEq (with_var G nat) P Q ∷ TmEq G a c (at P zero) ∷ TmEq G b k (motive_step P)
+      ∷ TmEq G n m nat ∷ []
+      ⟹ TmEq G (natrec P a b n) (natrec Q c k m) (at P n)
   -- natrec.zero | G P a b | G.nat >> P; G >> a : P{zero}; G >> b : motive_step P
   --   | G >> natrec P a b zero = a : P{zero}
-  nat_rule NatRecZero = λ G P a b. record {
-    wants = Ty (with_var G nat) P ∷ Tm G a (at P zero) ∷ Tm G b (motive_step P) ∷ [];
-    sides = [];
-    gives = TmEq G (natrec P a b zero) a (at P zero);
-  }
+  nat_rule NatRecZero = λ G P a b.
+      Ty (with_var G nat) P ∷ Tm G a (at P zero) ∷ Tm G b (motive_step P) ∷ []
+      ⟹ TmEq G (natrec P a b zero) a (at P zero)
   -- natrec.suc | G P a b n | premises of natrec
   --   | G >> natrec P a b (suc n) = app (app b n) (natrec P a b n) : P{suc n}
-  nat_rule NatRecSuc = λ G P a b n. record {
-    wants = natrec_wants G P a b n;
-    sides = [];
-    gives = TmEq G (natrec P a b (suc n)) (app (app b n) (natrec P a b n)) (at P (suc n));
-  }
+  nat_rule NatRecSuc = λ G P a b n.
+      natrec_wants G P a b n
+      ⟹ TmEq G (natrec P a b (suc n)) (app (app b n) (natrec P a b n)) (at P (suc n))
 
   -- The rules of systems.
 
   -- the premises of sys.ty
   abbrev pub sys_ty_wants : context → tree → tree → tree → tree → List (JudgementOf L)
   sys_ty_wants G p q A B =
-      Ty (with_face G p) A
-      ∷ Ty (with_face G q) B
-      ∷ TyEq (with_face (with_face G p) q) A B
-      ∷ []
+      Ty (with_face G p) A ∷ Ty (with_face G q) B ∷ TyEq (with_face (with_face G p) q) A B ∷ []
 
   -- the premises of sys.tm
   abbrev pub sys_tm_wants : context → tree → tree → tree → tree → tree → List (JudgementOf L)
   sys_tm_wants G p q a b A =
-      Ty G A
-      ∷ Tm (with_face G p) a A
-      ∷ Tm (with_face G q) b A
-      ∷ TmEq (with_face (with_face G p) q) a b A
-      ∷ []
+      Ty G A ∷ Tm (with_face G p) a A ∷ Tm (with_face G q) b A
+      ∷ TmEq (with_face (with_face G p) q) a b A ∷ []
 
   abbrev pub system_rule : (name : SystemRule) → Over (kinds_of (Systems name))
   -- sys.ty | G p q A B | G.p >> A; G.q >> B; G.p.q >> A = B
   --   if IsFace(G, p), IsFace(G, q), Holds(G, join p q) | G >> sys p q A B
-  system_rule SysTy = λ G p q A B. record {
-    wants = sys_ty_wants G p q A B;
-    sides = IsFace G p ∷ IsFace G q ∷ Holds G (join p q) ∷ [];
-    gives = Ty G (sys p q A B);
-  }
+  system_rule SysTy = λ G p q A B.
+      sys_ty_wants G p q A B
+      ⟹ Ty G (sys p q A B) when IsFace G p ∷ IsFace G q ∷ Holds G (join p q) ∷ []
   -- sys.tm | G p q a b A | G >> A; G.p >> a : A; G.q >> b : A; G.p.q >> a = b : A
   --   if IsFace(G, p), IsFace(G, q), Holds(G, join p q) | G >> sys p q a b : A
-  system_rule SysTm = λ G p q a b A. record {
-    wants = sys_tm_wants G p q a b A;
-    sides = IsFace G p ∷ IsFace G q ∷ Holds G (join p q) ∷ [];
-    gives = Tm G (sys p q a b) A;
-  }
+  system_rule SysTm = λ G p q a b A.
+      sys_tm_wants G p q a b A
+      ⟹ Tm G (sys p q a b) A when IsFace G p ∷ IsFace G q ∷ Holds G (join p q) ∷ []
   -- sys.tyleft | G p q A B | premises of sys.ty
   --   if IsFace(G, p), IsFace(G, q), Holds(G, join p q) | G.p >> sys p q A B = A
-  system_rule SysTyLeft = λ G p q A B. record {
-    wants = sys_ty_wants G p q A B;
-    sides = IsFace G p ∷ IsFace G q ∷ Holds G (join p q) ∷ [];
-    gives = TyEq (with_face G p) (sys p q A B) A;
-  }
+  system_rule SysTyLeft = λ G p q A B.
+      sys_ty_wants G p q A B
+      ⟹ TyEq (with_face G p) (sys p q A B) A when IsFace G p ∷ IsFace G q ∷ Holds G (join p q) ∷ []
   -- sys.tyright | G p q A B | premises of sys.ty
   --   if IsFace(G, p), IsFace(G, q), Holds(G, join p q) | G.q >> sys p q A B = B
-  system_rule SysTyRight = λ G p q A B. record {
-    wants = sys_ty_wants G p q A B;
-    sides = IsFace G p ∷ IsFace G q ∷ Holds G (join p q) ∷ [];
-    gives = TyEq (with_face G q) (sys p q A B) B;
-  }
+  system_rule SysTyRight = λ G p q A B.
+      sys_ty_wants G p q A B
+      ⟹ TyEq (with_face G q) (sys p q A B) B when IsFace G p ∷ IsFace G q ∷ Holds G (join p q) ∷ []
   -- sys.left | G p q a b A | premises of sys.tm
   --   if IsFace(G, p), IsFace(G, q), Holds(G, join p q) | G.p >> sys p q a b = a : A
-  system_rule SysLeft = λ G p q a b A. record {
-    wants = sys_tm_wants G p q a b A;
-    sides = IsFace G p ∷ IsFace G q ∷ Holds G (join p q) ∷ [];
-    gives = TmEq (with_face G p) (sys p q a b) a A;
-  }
+  system_rule SysLeft = λ G p q a b A.
+      sys_tm_wants G p q a b A
+      ⟹ TmEq (with_face G p) (sys p q a b) a A when IsFace G p ∷ IsFace G q ∷ Holds G (join p q) ∷
+      []
   -- sys.right | G p q a b A | premises of sys.tm
   --   if IsFace(G, p), IsFace(G, q), Holds(G, join p q) | G.q >> sys p q a b = b : A
-  system_rule SysRight = λ G p q a b A. record {
-    wants = sys_tm_wants G p q a b A;
-    sides = IsFace G p ∷ IsFace G q ∷ Holds G (join p q) ∷ [];
-    gives = TmEq (with_face G q) (sys p q a b) b A;
-  }
+  system_rule SysRight = λ G p q a b A.
+      sys_tm_wants G p q a b A
+      ⟹ TmEq (with_face G q) (sys p q a b) b A when IsFace G p ∷ IsFace G q ∷ Holds G (join p q) ∷
+      []
   -- empty.ty | G | ctx G if Holds(G, f0) | G >> empty
-  system_rule EmptyTy = λ G. record {
-    wants = Ctx G ∷ [];
-    sides = Holds G f0 ∷ [];
-    gives = Ty G empty;
-  }
+  system_rule EmptyTy = λ G. Ctx G ∷ [] ⟹ Ty G empty when Holds G f0 ∷ []
   -- empty.tm | G A | G >> A if Holds(G, f0) | G >> empty : A
-  system_rule EmptyTm = λ G A. record {
-    wants = Ty G A ∷ [];
-    sides = Holds G f0 ∷ [];
-    gives = Tm G empty A;
-  }
+  system_rule EmptyTm = λ G A. Ty G A ∷ [] ⟹ Tm G empty A when Holds G f0 ∷ []
 
   -- The rules of composition.
 
   -- the premises of comp
   abbrev pub comp_wants : context → tree → tree → tree → tree → List (JudgementOf L)
   comp_wants G A p b a =
-      Ty (with_name G) A
-      ∷ Tm (with_name (with_face G p)) b A
-      ∷ Tm G a (at A i0)
-      ∷ TmEq (with_face G p) a (at b i0) (at A i0)
-      ∷ []
+      Ty (with_name G) A ∷ Tm (with_name (with_face G p)) b A ∷ Tm G a (at A i0)
+      ∷ TmEq (with_face G p) a (at b i0) (at A i0) ∷ []
 
   abbrev pub comp_rule : (name : CompRule) → Over (kinds_of (Composition name))
   -- comp | G A p b a | G.I >> A; G.p.I >> b : A; G >> a : A{0}; G.p >> a = b{0} : A{0}
   --   if IsFace(G, p) | G >> comp A p b a : A{1}
-  comp_rule Comp = λ G A p b a. record {
-    wants = comp_wants G A p b a;
-    sides = IsFace G p ∷ [];
-    gives = Tm G (comp A p b a) (at A i1);
-  }
+  comp_rule Comp = λ G A p b a.
+      comp_wants G A p b a ⟹ Tm G (comp A p b a) (at A i1) when IsFace G p ∷ []
   -- comp.face | G A p b a | premises of comp if IsFace(G, p) | G.p >> comp A p b a = b{1} : A{1}
-  comp_rule CompFace = λ G A p b a. record {
-    wants = comp_wants G A p b a;
-    sides = IsFace G p ∷ [];
-    gives = TmEq (with_face G p) (comp A p b a) (at b i1) (at A i1);
-  }
+  comp_rule CompFace = λ G A p b a.
+      comp_wants G A p b a
+      ⟹ TmEq (with_face G p) (comp A p b a) (at b i1) (at A i1) when IsFace G p ∷ []
   -- comp.cong | G A B p q b c a k | G.I >> A = B; G.p.I >> b : A; G >> a : A{0};
   --   G.p >> a = b{0} : A{0}; G.p.I >> b = c : A; G >> a = k : A{0}
   --   if IsFace(G, p), IsFace(G, q), Holds(G.p, q), Holds(G.q, p)
   --   | G >> comp A p b a = comp B q c k : A{1}
-  comp_rule CompCong = λ G A B p q b c a k. record {
-    wants =
-        TyEq (with_name G) A B
-        ∷ Tm (with_name (with_face G p)) b A
-        ∷ Tm G a (at A i0)
-        ∷ TmEq (with_face G p) a (at b i0) (at A i0)
-        ∷ TmEq (with_name (with_face G p)) b c A
-        ∷ TmEq G a k (at A i0)
-        ∷ [];
-    sides = IsFace G p ∷ IsFace G q ∷ Holds (with_face G p) q ∷ Holds (with_face G q) p ∷ [];
-    gives = TmEq G (comp A p b a) (comp B q c k) (at A i1);
-  }
+  comp_rule CompCong = λ G A B p q b c a k.
+      TyEq (with_name G) A B ∷ Tm (with_name (with_face G p)) b A ∷ Tm G a (at A i0)
+      ∷ TmEq (with_face G p) a (at b i0) (at A i0) ∷ TmEq (with_name (with_face G p)) b c A
+      ∷ TmEq G a k (at A i0) ∷ []
+      ⟹ TmEq G (comp A p b a) (comp B q c k) (at A i1) when IsFace G p ∷ IsFace G q ∷ Holds
+      (with_face G p) q ∷ Holds (with_face G q) p ∷ []
   -- comp.pi | G A B p b a | G.I >> A; G.I.A >> B; G.p.I >> b : pi A B; G >> a : (pi A B){0};
   --   G.p >> a = b{0} : (pi A B){0} if IsFace(G, p)
   --   | G >> comp (pi A B) p b a = comp_pi A B p b a : (pi A B){1}
-  comp_rule CompPi = λ G A B p b a. record {
-    wants =
-        Ty (with_name G) A
-        ∷ Ty (with_var (with_name G) A) B
-        ∷ Tm (with_name (with_face G p)) b (pi A B)
-        ∷ Tm G a (at (pi A B) i0)
-        ∷ TmEq (with_face G p) a (at b i0) (at (pi A B) i0)
-        ∷ [];
-    sides = IsFace G p ∷ [];
-    gives = TmEq G (comp (pi A B) p b a) (comp_pi A B p b a) (at (pi A B) i1);
-  }
+  comp_rule CompPi = λ G A B p b a.
+      Ty (with_name G) A ∷ Ty (with_var (with_name G) A) B
+      ∷ Tm (with_name (with_face G p)) b (pi A B) ∷ Tm G a (at (pi A B) i0)
+      ∷ TmEq (with_face G p) a (at b i0) (at (pi A B) i0) ∷ []
+      ⟹ TmEq G (comp (pi A B) p b a) (comp_pi A B p b a) (at (pi A B) i1) when IsFace G p ∷ []
   -- comp.sig | G A B p b a | G.I >> A; G.I.A >> B; G.p.I >> b : sig A B; G >> a : (sig A B){0};
   --   G.p >> a = b{0} : (sig A B){0} if IsFace(G, p)
   --   | G >> comp (sig A B) p b a = comp_sig A B p b a : (sig A B){1}
-  comp_rule CompSig = λ G A B p b a. record {
-    wants =
-        Ty (with_name G) A
-        ∷ Ty (with_var (with_name G) A) B
-        ∷ Tm (with_name (with_face G p)) b (sig A B)
-        ∷ Tm G a (at (sig A B) i0)
-        ∷ TmEq (with_face G p) a (at b i0) (at (sig A B) i0)
-        ∷ [];
-    sides = IsFace G p ∷ [];
-    gives = TmEq G (comp (sig A B) p b a) (comp_sig A B p b a) (at (sig A B) i1);
-  }
+  comp_rule CompSig = λ G A B p b a.
+      Ty (with_name G) A ∷ Ty (with_var (with_name G) A) B
+      ∷ Tm (with_name (with_face G p)) b (sig A B) ∷ Tm G a (at (sig A B) i0)
+      ∷ TmEq (with_face G p) a (at b i0) (at (sig A B) i0) ∷ []
+      ⟹ TmEq G (comp (sig A B) p b a) (comp_sig A B p b a) (at (sig A B) i1) when IsFace G p ∷ []
   -- comp.path | G A u v p b a | G.I.I >> A; G.I >> u : A{0}; G.I >> v : A{1};
   --   G.p.I >> b : pathp A u v; G >> a : (pathp A u v){0}; G.p >> a = b{0} : (pathp A u v){0}
   --   if IsFace(G, p)
   --   | G >> comp (pathp A u v) p b a = comp_path A u v p b a : (pathp A u v){1}
-  comp_rule CompPath = λ G A u v p b a. record {
-    wants =
-        Ty (with_name (with_name G)) A
-        ∷ Tm (with_name G) u (at A i0)
-        ∷ Tm (with_name G) v (at A i1)
-        ∷ Tm (with_name (with_face G p)) b (pathp A u v)
-        ∷ Tm G a (at (pathp A u v) i0)
-        ∷ TmEq (with_face G p) a (at b i0) (at (pathp A u v) i0)
-        ∷ [];
-    sides = IsFace G p ∷ [];
-    gives = TmEq G (comp (pathp A u v) p b a) (comp_path A u v p b a) (at (pathp A u v) i1);
-  }
+  comp_rule CompPath = λ G A u v p b a.
+      Ty (with_name (with_name G)) A ∷ Tm (with_name G) u (at A i0) ∷ Tm (with_name G) v (at A i1)
+      ∷ Tm (with_name (with_face G p)) b (pathp A u v) ∷ Tm G a (at (pathp A u v) i0)
+      ∷ TmEq (with_face G p) a (at b i0) (at (pathp A u v) i0) ∷ []
+      ⟹ TmEq G (comp (pathp A u v) p b a) (comp_path A u v p b a) (at (pathp A u v) i1) when IsFace
+      G p ∷ []
   -- comp.zero | G p | ctx G if IsFace(G, p) | G >> comp nat p zero zero = zero : nat
-  comp_rule CompZero = λ G p. record {
-    wants = Ctx G ∷ [];
-    sides = IsFace G p ∷ [];
-    gives = TmEq G (comp nat p zero zero) zero nat;
-  }
+  comp_rule CompZero = λ G p.
+      Ctx G ∷ [] ⟹ TmEq G (comp nat p zero zero) zero nat when IsFace G p ∷ []
   -- comp.suc | G p n m | G.p.I >> n : nat; G >> m : nat; G.p >> m = n{0} : nat if IsFace(G, p)
   --   | G >> comp nat p (suc n) (suc m) = suc (comp nat p n m) : nat
-  comp_rule CompSuc = λ G p n m. record {
-    wants =
-        Tm (with_name (with_face G p)) n nat
-        ∷ Tm G m nat
-        ∷ TmEq (with_face G p) m (at n i0) nat
-        ∷ [];
-    sides = IsFace G p ∷ [];
-    gives = TmEq G (comp nat p (suc n) (suc m)) (suc (comp nat p n m)) nat;
-  }
+  comp_rule CompSuc = λ G p n m.
+      Tm (with_name (with_face G p)) n nat ∷ Tm G m nat ∷ TmEq (with_face G p) m (at n i0) nat
+      ∷ []
+      ⟹ TmEq G (comp nat p (suc n) (suc m)) (suc (comp nat p n m)) nat when IsFace G p ∷ []
   -- comp.glue | G A q T w p b a | G.I >> A; G.I.q >> T; G.I.q >> w : equiv T A;
   --   G.p.I >> b : Glue A q T w; G >> a : (Glue A q T w){0}; G.p >> a = b{0} : (Glue A q T w){0}
   --   if IsFace(G, p), IsFace(G.I, q)
   --   | G >> comp (Glue A q T w) p b a = comp_glue A q T w p b a : (Glue A q T w){1}
-  comp_rule CompGlue = λ G A q T w p b a. record {
-    wants =
-        Ty (with_name G) A
-        ∷ Ty (with_face (with_name G) q) T
-        ∷ Tm (with_face (with_name G) q) w (equiv T A)
-        ∷ Tm (with_name (with_face G p)) b (glue_type A q T w)
-        ∷ Tm G a (at (glue_type A q T w) i0)
-        ∷ TmEq (with_face G p) a (at b i0) (at (glue_type A q T w) i0)
-        ∷ [];
-    sides = IsFace G p ∷ IsFace (with_name G) q ∷ [];
-    gives = TmEq G
-        (comp (glue_type A q T w) p b a)
-        (comp_glue A q T w p b a)
-        (at (glue_type A q T w) i1);
-  }
+  comp_rule CompGlue = λ G A q T w p b a.
+      Ty (with_name G) A ∷ Ty (with_face (with_name G) q) T
+      ∷ Tm (with_face (with_name G) q) w (equiv T A)
+      ∷ Tm (with_name (with_face G p)) b (glue_type A q T w) ∷ Tm G a (at (glue_type A q T w) i0)
+      ∷ TmEq (with_face G p) a (at b i0) (at (glue_type A q T w) i0) ∷ []
+      ⟹ TmEq G (comp (glue_type A q T w) p b a) (comp_glue A q T w p b a) (at (glue_type A q T w)
+      i1) when IsFace G p ∷ IsFace (with_name G) q ∷ []
   -- comp.u | G p b a | G.p.I >> b : U; G >> a : U; G.p >> a = b{0} : U if IsFace(G, p)
   --   | G >> comp U p b a = comp_u p b a : U
-  comp_rule CompU = λ G p b a. record {
-    wants =
-        Tm (with_name (with_face G p)) b universe
-        ∷ Tm G a universe
-        ∷ TmEq (with_face G p) a (at b i0) universe
-        ∷ [];
-    sides = IsFace G p ∷ [];
-    gives = TmEq G (comp universe p b a) (comp_u p b a) universe;
-  }
+  comp_rule CompU = λ G p b a.
+      Tm (with_name (with_face G p)) b universe ∷ Tm G a universe
+      ∷ TmEq (with_face G p) a (at b i0) universe ∷ []
+      ⟹ TmEq G (comp universe p b a) (comp_u p b a) universe when IsFace G p ∷ []
 
   -- The rules of Glue.
 
@@ -1176,144 +881,88 @@ module _ (L : Language) where
   -- the premises of glue.u
   abbrev pub glue_u_wants : context → tree → tree → tree → tree → List (JudgementOf L)
   glue_u_wants G A p T w =
-      Tm G A universe
-      ∷ Tm (with_face G p) T universe
-      ∷ Tm (with_face G p) w (equiv T A)
-      ∷ []
+      Tm G A universe ∷ Tm (with_face G p) T universe ∷ Tm (with_face G p) w (equiv T A) ∷ []
 
   -- the premises of glue
   abbrev pub glue_wants : context → tree → tree → tree → tree → tree → tree → List (JudgementOf L)
   glue_wants G A p T w c a =
-      Ty G A
-      ∷ Ty (with_face G p) T
-      ∷ Tm (with_face G p) w (equiv T A)
-      ∷ Tm (with_face G p) c T
-      ∷ Tm G a A
-      ∷ TmEq (with_face G p) (app (fst w) c) a A
-      ∷ []
+      Ty G A ∷ Ty (with_face G p) T ∷ Tm (with_face G p) w (equiv T A) ∷ Tm (with_face G p) c T
+      ∷ Tm G a A ∷ TmEq (with_face G p) (app (fst w) c) a A ∷ []
 
   -- the premises of unglue
   abbrev pub unglue_wants : context → tree → tree → tree → tree → tree → List (JudgementOf L)
   unglue_wants G A p T w b =
-      Ty G A
-      ∷ Ty (with_face G p) T
-      ∷ Tm (with_face G p) w (equiv T A)
-      ∷ Tm G b (glue_type A p T w)
-      ∷ []
+      Ty G A ∷ Ty (with_face G p) T ∷ Tm (with_face G p) w (equiv T A)
+      ∷ Tm G b (glue_type A p T w) ∷ []
 
   abbrev pub glue_rule : (name : GlueRule) → Over (kinds_of (Gluing name))
   -- glue.ty | G A p T w | G >> A; G.p >> T; G.p >> w : equiv T A if IsFace(G, p)
   --   | G >> Glue A p T w
-  glue_rule GlueTy = λ G A p T w. record {
-    wants = glue_ty_wants G A p T w;
-    sides = IsFace G p ∷ [];
-    gives = Ty G (glue_type A p T w);
-  }
+  glue_rule GlueTy = λ G A p T w.
+      glue_ty_wants G A p T w ⟹ Ty G (glue_type A p T w) when IsFace G p ∷ []
   -- glue.u | G A p T w | G >> A : U; G.p >> T : U; G.p >> w : equiv T A if IsFace(G, p)
   --   | G >> Glue A p T w : U
-  glue_rule GlueU = λ G A p T w. record {
-    wants = glue_u_wants G A p T w;
-    sides = IsFace G p ∷ [];
-    gives = Tm G (glue_type A p T w) universe;
-  }
+  glue_rule GlueU = λ G A p T w.
+      glue_u_wants G A p T w ⟹ Tm G (glue_type A p T w) universe when IsFace G p ∷ []
   -- glue.tyface | G A p T w | premises of glue.ty if IsFace(G, p) | G.p >> Glue A p T w = T
-  glue_rule GlueTyFace = λ G A p T w. record {
-    wants = glue_ty_wants G A p T w;
-    sides = IsFace G p ∷ [];
-    gives = TyEq (with_face G p) (glue_type A p T w) T;
-  }
+  glue_rule GlueTyFace = λ G A p T w.
+      glue_ty_wants G A p T w ⟹ TyEq (with_face G p) (glue_type A p T w) T when IsFace G p ∷ []
   -- glue.uface | G A p T w | premises of glue.u if IsFace(G, p) | G.p >> Glue A p T w = T : U
-  glue_rule GlueUFace = λ G A p T w. record {
-    wants = glue_u_wants G A p T w;
-    sides = IsFace G p ∷ [];
-    gives = TmEq (with_face G p) (glue_type A p T w) T universe;
-  }
+  glue_rule GlueUFace = λ G A p T w.
+      glue_u_wants G A p T w
+      ⟹ TmEq (with_face G p) (glue_type A p T w) T universe when IsFace G p ∷ []
   -- glue.tycong | G A B p q T V w z | G >> A = B; G.p >> T = V; G.p >> w = z : equiv T A
   --   if IsFace(G, p), IsFace(G, q), Holds(G.p, q), Holds(G.q, p)
   --   | G >> Glue A p T w = Glue B q V z
-  glue_rule GlueTyCong = λ G A B p q T V w z. record {
-    wants = TyEq G A B ∷ TyEq (with_face G p) T V ∷ TmEq (with_face G p) w z (equiv T A) ∷ [];
-    sides = IsFace G p ∷ IsFace G q ∷ Holds (with_face G p) q ∷ Holds (with_face G q) p ∷ [];
-    gives = TyEq G (glue_type A p T w) (glue_type B q V z);
-  }
+  glue_rule GlueTyCong = λ G A B p q T V w z.
+      TyEq G A B ∷ TyEq (with_face G p) T V ∷ TmEq (with_face G p) w z (equiv T A) ∷ []
+      ⟹ TyEq G (glue_type A p T w) (glue_type B q V z) when IsFace G p ∷ IsFace G q ∷ Holds
+      (with_face G p) q ∷ Holds (with_face G q) p ∷ []
   -- glue.ucong | G A B p q T V w z | G >> A = B : U; G.p >> T = V : U; G.p >> w = z : equiv T A
   --   if IsFace(G, p), IsFace(G, q), Holds(G.p, q), Holds(G.q, p)
   --   | G >> Glue A p T w = Glue B q V z : U
-  glue_rule GlueUCong = λ G A B p q T V w z. record {
-    wants =
-        TmEq G A B universe
-        ∷ TmEq (with_face G p) T V universe
-        ∷ TmEq (with_face G p) w z (equiv T A)
-        ∷ [];
-    sides = IsFace G p ∷ IsFace G q ∷ Holds (with_face G p) q ∷ Holds (with_face G q) p ∷ [];
-    gives = TmEq G (glue_type A p T w) (glue_type B q V z) universe;
-  }
+  glue_rule GlueUCong = λ G A B p q T V w z.
+      TmEq G A B universe ∷ TmEq (with_face G p) T V universe
+      ∷ TmEq (with_face G p) w z (equiv T A) ∷ []
+      ⟹ TmEq G (glue_type A p T w) (glue_type B q V z) universe when IsFace G p ∷ IsFace G q ∷ Holds
+      (with_face G p) q ∷ Holds (with_face G q) p ∷ []
   -- glue | G A p T w c a | G >> A; G.p >> T; G.p >> w : equiv T A; G.p >> c : T; G >> a : A;
   --   G.p >> app (fst w) c = a : A if IsFace(G, p) | G >> glue p c a : Glue A p T w
-  glue_rule Glue = λ G A p T w c a. record {
-    wants = glue_wants G A p T w c a;
-    sides = IsFace G p ∷ [];
-    gives = Tm G (glue p c a) (glue_type A p T w);
-  }
+  glue_rule Glue = λ G A p T w c a.
+      glue_wants G A p T w c a ⟹ Tm G (glue p c a) (glue_type A p T w) when IsFace G p ∷ []
   -- glue.face | G A p T w c a | premises of glue if IsFace(G, p) | G.p >> glue p c a = c : T
-  glue_rule GlueFace = λ G A p T w c a. record {
-    wants = glue_wants G A p T w c a;
-    sides = IsFace G p ∷ [];
-    gives = TmEq (with_face G p) (glue p c a) c T;
-  }
+  glue_rule GlueFace = λ G A p T w c a.
+      glue_wants G A p T w c a ⟹ TmEq (with_face G p) (glue p c a) c T when IsFace G p ∷ []
   -- unglue | G A p T w b | G >> A; G.p >> T; G.p >> w : equiv T A; G >> b : Glue A p T w
   --   if IsFace(G, p) | G >> unglue p T w b : A
-  glue_rule Unglue = λ G A p T w b. record {
-    wants = unglue_wants G A p T w b;
-    sides = IsFace G p ∷ [];
-    gives = Tm G (unglue p T w b) A;
-  }
+  glue_rule Unglue = λ G A p T w b.
+      unglue_wants G A p T w b ⟹ Tm G (unglue p T w b) A when IsFace G p ∷ []
   -- unglue.face | G A p T w b | premises of unglue if IsFace(G, p)
   --   | G.p >> unglue p T w b = app (fst w) b : A
-  glue_rule UnglueFace = λ G A p T w b. record {
-    wants = unglue_wants G A p T w b;
-    sides = IsFace G p ∷ [];
-    gives = TmEq (with_face G p) (unglue p T w b) (app (fst w) b) A;
-  }
+  glue_rule UnglueFace = λ G A p T w b.
+      unglue_wants G A p T w b
+      ⟹ TmEq (with_face G p) (unglue p T w b) (app (fst w) b) A when IsFace G p ∷ []
   -- unglue.cong | G A p T w q V z b c | G >> A; G.p >> T; G.p >> w : equiv T A; G.p >> T = V;
   --   G.p >> w = z : equiv T A; G >> b = c : Glue A p T w
   --   if IsFace(G, p), IsFace(G, q), Holds(G.p, q), Holds(G.q, p)
   --   | G >> unglue p T w b = unglue q V z c : A
-  glue_rule UnglueCong = λ G A p T w q V z b c. record {
-    wants =
-        Ty G A
-        ∷ Ty (with_face G p) T
-        ∷ Tm (with_face G p) w (equiv T A)
-        ∷ TyEq (with_face G p) T V
-        ∷ TmEq (with_face G p) w z (equiv T A)
-        ∷ TmEq G b c (glue_type A p T w)
-        ∷ [];
-    sides = IsFace G p ∷ IsFace G q ∷ Holds (with_face G p) q ∷ Holds (with_face G q) p ∷ [];
-    gives = TmEq G (unglue p T w b) (unglue q V z c) A;
-  }
+  glue_rule UnglueCong = λ G A p T w q V z b c.
+      Ty G A ∷ Ty (with_face G p) T ∷ Tm (with_face G p) w (equiv T A) ∷ TyEq (with_face G p) T V
+      ∷ TmEq (with_face G p) w z (equiv T A) ∷ TmEq G b c (glue_type A p T w) ∷ []
+      ⟹ TmEq G (unglue p T w b) (unglue q V z c) A when IsFace G p ∷ IsFace G q ∷ Holds (with_face G
+      p) q ∷ Holds (with_face G q) p ∷ []
   -- glue.beta | G A p T w c a | premises of glue if IsFace(G, p)
   --   | G >> unglue p T w (glue p c a) = a : A
-  glue_rule GlueBeta = λ G A p T w c a. record {
-    wants = glue_wants G A p T w c a;
-    sides = IsFace G p ∷ [];
-    gives = TmEq G (unglue p T w (glue p c a)) a A;
-  }
+  glue_rule GlueBeta = λ G A p T w c a.
+      glue_wants G A p T w c a ⟹ TmEq G (unglue p T w (glue p c a)) a A when IsFace G p ∷ []
   -- glue.eta | G A p T w b c | G >> A; G.p >> T; G.p >> w : equiv T A; G >> b : Glue A p T w;
   --   G >> c : Glue A p T w; G >> unglue p T w b = unglue p T w c : A; G.p >> b = c : T
   --   if IsFace(G, p) | G >> b = c : Glue A p T w
-  glue_rule GlueEta = λ G A p T w b c. record {
-    wants =
-        Ty G A
-        ∷ Ty (with_face G p) T
-        ∷ Tm (with_face G p) w (equiv T A)
-        ∷ Tm G b (glue_type A p T w)
-        ∷ Tm G c (glue_type A p T w)
-        ∷ TmEq G (unglue p T w b) (unglue p T w c) A
-        ∷ TmEq (with_face G p) b c T
-        ∷ [];
-    sides = IsFace G p ∷ [];
-    gives = TmEq G b c (glue_type A p T w);
-  }
+  glue_rule GlueEta = λ G A p T w b c.
+      Ty G A ∷ Ty (with_face G p) T ∷ Tm (with_face G p) w (equiv T A)
+      ∷ Tm G b (glue_type A p T w) ∷ Tm G c (glue_type A p T w)
+      ∷ TmEq G (unglue p T w b) (unglue p T w c) A ∷ TmEq (with_face G p) b c T ∷ []
+      ⟹ TmEq G b c (glue_type A p T w) when IsFace G p ∷ []
 
   abbrev pub rule : (name : RuleName) → Over (kinds_of name)
   rule (Contexts name) = context_rule name
