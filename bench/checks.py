@@ -71,6 +71,8 @@ def measure(program, folder, shape, count):
 
 
 def main():
+    if len(sys.argv) < 2:
+        sys.exit(__doc__.strip())
     words = sys.argv[2:]
     shapes = [word for word in words if word in SHAPES] or list(SHAPES)
     counts = [int(word) for word in words if word.isdigit()] or [100, 1000, 10000]

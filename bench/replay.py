@@ -1,6 +1,8 @@
 #!/usr/bin/env python3
 """Times `ctt replay` on files of about N rows, of five shapes.
 
+usage: python3 bench/replay.py PROGRAM [SHAPE ..] [N ..]
+
 `suc`: successors of zero. `lam`: functions of many arguments, each derived under the context of those
 before it. `app`: one function applied to what it gave before, so that each argument's type is an instance.
 `sub`: a term weakened entry by entry along a context. `comp`: compositions over one line, each of what the
@@ -169,6 +171,8 @@ def measure(program, path, shape, wanted):
 
 
 def main():
+    if len(sys.argv) < 2:
+        sys.exit(__doc__.strip())
     program = os.path.abspath(sys.argv[1])
     shapes = [word for word in sys.argv[2:] if word in SHAPES] or list(SHAPES)
     counts = [int(word) for word in sys.argv[2:] if word.isdigit()] or [10_000, 100_000, 1_000_000]

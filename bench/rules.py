@@ -36,6 +36,8 @@ def time_rules(program, path, count, names):
 
 
 def main():
+    if len(sys.argv) < 2:
+        sys.exit(__doc__.strip())
     program = os.path.abspath(sys.argv[1])
     count = next((int(word) for word in sys.argv[2:] if word.isdigit()), 200_000)
     names = [word for word in sys.argv[2:] if not word.isdigit()]

@@ -1,5 +1,11 @@
 #!/usr/bin/env python3
-"""Times `ctt replay` on nodes whose side conditions are faces and formulas."""
+"""Times `ctt replay` on nodes whose side conditions are faces and formulas.
+
+usage: python3 bench/sides.py PROGRAM
+
+A line tells the microseconds a node, of the best of three runs, the reading of the rows before the
+nodes left out.
+"""
 
 import os
 import pathlib
@@ -104,6 +110,8 @@ def seconds(program, path, lines):
 
 
 def main():
+    if len(sys.argv) < 2:
+        sys.exit(__doc__.strip())
     program = os.path.abspath(sys.argv[1])
     with tempfile.TemporaryDirectory() as folder:
         path = pathlib.Path(folder, "sides.drv")

@@ -325,4 +325,6 @@ def verdict(lines):
 
 
 if __name__ == "__main__":
+    if len(sys.argv) < 2:
+        sys.exit(__doc__.strip())
     print(answer(pathlib.Path(sys.argv[1]).read_bytes())[0], end="")
