@@ -11,10 +11,10 @@ of `replay --of`.
 
 import os
 import pathlib
-import subprocess
 import sys
 import tempfile
-import time
+
+from runs import measured, timed
 
 RUNS = 3
 DEEP = 30
@@ -41,29 +41,22 @@ def teles(at):
 SHAPES = {"before": before, "first": first, "lambdas": lambdas, "teles": teles}
 
 
-def run(program, folder, *words):
-    """The answer of one run, its seconds, and the peak of its memory in bytes."""
-    start = time.perf_counter()
-    started = subprocess.Popen([program, *words], cwd=folder, stdout=subprocess.PIPE, text=True)
-    answer = started.stdout.read()
-    _, status, usage = os.wait4(started.pid, 0)
-    started.returncode = os.waitstatus_to_exitcode(status)
-    return answer, time.perf_counter() - start, usage.ru_maxrss * 1024
-
-
-def best(program, folder, *words):
-    runs = [run(program, folder, *words) for _ in range(RUNS)]
-    return runs[0][0], min(seconds for _, seconds, _ in runs), max(peak for _, _, peak in runs)
+def best(command, folder):
+    """The answer of a command, and the least seconds of its runs."""
+    runs = [timed(command, folder) for _ in range(RUNS)]
+    return runs[0][0], min(seconds for _, seconds in runs)
 
 
 def measure(program, folder, shape, count):
     lines = ["module Bench where", *(SHAPES[shape](at) for at in range(count))]
     pathlib.Path(folder, "Bench.ctt").write_text("".join(line + "\n" for line in lines))
-    answer, seconds, peak = best(program, folder, "check", "Bench")
+    command = [program, "check", "Bench"]
+    answer, seconds = best(command, folder)
     if answer != f"yes: {count} definitions\n":
         sys.exit(f"{shape} {count}: {answer}")
+    _, peak = measured(command, folder)
     size = pathlib.Path(folder, "Bench.drv").stat().st_size
-    judged, replayed, _ = best(program, folder, "replay", "Bench.drv", "--of", "Bench")
+    judged, replayed = best([program, "replay", "Bench.drv", "--of", "Bench"], folder)
     if not judged.startswith("yes"):
         sys.exit(f"{shape} {count}: replay: {judged}")
     print(f"{shape} {count}: check {seconds * 1000:.1f} ms, {count / seconds:.0f} definitions a second, "

@@ -15,6 +15,8 @@ import subprocess
 import sys
 import tempfile
 
+from runs import measured
+
 BENCH = os.path.dirname(os.path.abspath(__file__))
 ROOT = os.path.dirname(BENCH)
 PROGRAM = "timing"
@@ -47,15 +49,6 @@ def make(folder, text):
     return crate
 
 
-def measured(program, word):
-    """What the program prints when it is run with that word, and the kilobytes of memory that it takes at its peak."""
-    started = subprocess.Popen([program, word], stdout=subprocess.PIPE, text=True)
-    told = started.stdout.read()
-    _, status, usage = os.wait4(started.pid, 0)
-    started.returncode = os.waitstatus_to_exitcode(status)
-    return told, usage.ru_maxrss
-
-
 def main():
     if len(sys.argv) < 2:
         sys.exit(__doc__.strip())
@@ -66,8 +59,8 @@ def main():
         done = subprocess.run(["rt", "run"], cwd=crate, capture_output=True, text=True)
         print(done.stdout, end="")
         for word in sys.argv[2:] if done.returncode == 0 else []:
-            told, kilobytes = measured(os.path.join(crate, "out", PROGRAM), word)
-            print(f"{told.rstrip()}, {kilobytes / 1000:,.0f} MB")
+            told, peak = measured([os.path.join(crate, "out", PROGRAM), word])
+            print(f"{told.rstrip()}, {peak / 1e6:,.0f} MB")
     if done.returncode != 0:
         print(done.stderr, end="", file=sys.stderr)
     sys.exit(done.returncode)

@@ -14,6 +14,7 @@ import sys
 import tempfile
 
 from checks import best
+from runs import measured
 
 
 def chain(at, count):
@@ -43,10 +44,12 @@ def write(folder, shape, count):
 def measure(program, folder, shape, count):
     write(folder, shape, count)
     last = f"M{count - 1}"
-    answer, seconds, peak = best(program, folder, "check", last)
+    command = [program, "check", last]
+    answer, seconds = best(command, folder)
     if answer != f"yes: {count} definitions\n":
         sys.exit(f"{shape} {count}: {answer}")
-    judged, replayed, _ = best(program, folder, "replay", f"{last}.drv", "--of", last)
+    _, peak = measured(command, folder)
+    judged, replayed = best([program, "replay", f"{last}.drv", "--of", last], folder)
     if not judged.startswith("yes"):
         sys.exit(f"{shape} {count}: replay: {judged}")
     print(f"{shape} {count}: check {seconds * 1000:.1f} ms, {peak / 1e6:.0f} MB; replay {replayed * 1000:.1f} ms")

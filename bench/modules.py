@@ -9,12 +9,11 @@ before. `arrow`: the type of functions from the one before to itself, which is s
 """
 
 import os
-import subprocess
 import sys
 import tempfile
-import time
 
 from replay import File
+from runs import measured, timed
 
 RUNS = 3
 
@@ -106,27 +105,18 @@ def binaries(count):
 SHAPES = {"suc": successors, "arrow": arrows, "binary": binaries}
 
 
-def run(program, folder):
-    """The answer of one run, its seconds, and the peak of its memory in bytes."""
-    start = time.perf_counter()
-    started = subprocess.Popen([program, "replay", "bench.drv", "--of", "Bench"], cwd=folder, stdout=subprocess.PIPE, text=True)
-    answer = started.stdout.read()
-    _, status, usage = os.wait4(started.pid, 0)
-    started.returncode = os.waitstatus_to_exitcode(status)
-    return answer, time.perf_counter() - start, usage.ru_maxrss * 1024
-
-
 def measure(program, folder, shape, count):
     rows, lines = SHAPES[shape](count)
     for name, text in [("bench.drv", rows), ("Bench.ctt", lines)]:
         with open(os.path.join(folder, name), "w") as file:
             file.write(text)
-    runs = [run(program, folder) for _ in range(RUNS)]
-    for answer, _, _ in runs:
+    command = [program, "replay", "bench.drv", "--of", "Bench"]
+    runs = [timed(command, folder) for _ in range(RUNS)]
+    for answer, _ in runs:
         if answer != f"yes: {rows.count(chr(10))} rows, {2 * count} roots\n":
             sys.exit(f"{shape}, {count} definitions: {answer}")
-    seconds = min(seconds for _, seconds, _ in runs)
-    memory = max(memory for _, _, memory in runs)
+    seconds = min(seconds for _, seconds in runs)
+    _, memory = measured(command, folder)
     print(f"{shape:>6} {count:>7} {seconds:>8.3f} {seconds / count * 1e6:>8.1f} {memory:>12} {memory / count:>7.0f}", flush=True)
 
 

@@ -10,10 +10,10 @@ one before gave, on the face that is true nowhere.
 """
 
 import os
-import subprocess
 import sys
 import tempfile
-import time
+
+from runs import measured, timed
 
 
 class File:
@@ -140,30 +140,17 @@ SHAPES = {"suc": successors, "lam": functions, "app": applications, "sub": weake
           "comp": compositions}
 
 
-def run(program, path):
-    """The answer and the seconds of one run."""
-    start = time.perf_counter()
-    done = subprocess.run([program, "replay", path], capture_output=True, text=True)
-    return done.stdout, time.perf_counter() - start
-
-
-def peak(program, path):
-    """The peak of memory of one run in bytes, as GNU time tells it."""
-    words = ["/usr/bin/time", "-f", "%M", program, "replay", path]
-    done = subprocess.run(words, capture_output=True, text=True)
-    return int(done.stderr) * 1024
-
-
 def measure(program, path, shape, wanted):
     text, count = SHAPES[shape](wanted)
     with open(path, "w") as file:
         file.write(text)
-    runs = [run(program, path) for _ in range(5)]
+    command = [program, "replay", path]
+    runs = [timed(command) for _ in range(5)]
     for answer, _ in runs:
         if answer != f"yes: {count} rows, 1 roots\n":
             sys.exit(f"{shape}, {count} rows: {answer}")
     seconds = min(seconds for _, seconds in runs)
-    memory = peak(program, path)
+    _, memory = measured(command)
     print(
         f"{shape:>5} {count:>9} {len(text):>10} {seconds:>8.3f} {count / seconds:>10.0f} "
         f"{len(text) / seconds / 1e6:>6.1f} {memory:>12} {memory / count:>6.0f}"

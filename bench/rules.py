@@ -13,25 +13,15 @@ import tempfile
 
 sys.path.insert(0, str(pathlib.Path(__file__).resolve().parent.parent / "tools"))
 import rule_cases
-from replay import run
-
-
-def seconds(program, path, file, lines):
-    """The least seconds of three runs on the rows of a file and these lines."""
-    rows = file.rows + lines
-    path.write_text("".join(row + "\n" for row in rows))
-    runs = [run(program, path) for _ in range(3)]
-    if any(answer != f"yes: {len(rows)} rows, 0 roots\n" for answer, _ in runs):
-        sys.exit(runs[0][0])
-    return min(spent for _, spent in runs)
+from sides import seconds
 
 
 def time_rules(program, path, count, names):
     """Tells how fast nodes of each of these rules alone are judged."""
     for file in rule_cases.files():
-        uses, empty = file.uses(), seconds(program, path, file, [])
+        uses, empty = file.uses(), seconds(program, path, file.rows)
         for name in (rule.name for family in file.families for rule in family.rules if rule.name in names):
-            spent = seconds(program, path, file, [" ".join(uses[name])] * count) - empty
+            spent = seconds(program, path, file.rows + [" ".join(uses[name])] * count) - empty
             print(f"{name:<12} {count / spent:>10.0f}")
 
 
@@ -48,13 +38,13 @@ def main():
             return
         print(f"{'family':>10} {'rows/s':>10}  {'slowest rule':<12} {'rows/s':>10}")
         for file in rule_cases.files():
-            uses, empty = file.uses(), seconds(program, path, file, [])
+            uses, empty = file.uses(), seconds(program, path, file.rows)
             for family in file.families:
                 lines = {rule.name: " ".join(uses[rule.name]) for rule in family.rules}
-                speed = {name: count / (seconds(program, path, file, [line] * count) - empty)
+                speed = {name: count / (seconds(program, path, file.rows + [line] * count) - empty)
                          for name, line in lines.items()}
                 mixed = list(lines.values()) * (count // len(lines))
-                mean = len(mixed) / (seconds(program, path, file, mixed) - empty)
+                mean = len(mixed) / (seconds(program, path, file.rows + mixed) - empty)
                 worst = min(speed, key=speed.get)
                 print(f"{family.variant:>10} {mean:>10.0f}  {worst:<12} {speed[worst]:>10.0f}")
 

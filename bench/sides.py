@@ -12,7 +12,7 @@ import pathlib
 import sys
 import tempfile
 
-from replay import run
+from runs import timed
 
 
 class Rows:
@@ -102,8 +102,9 @@ def shared(count):
 
 
 def seconds(program, path, lines):
+    """The least seconds of three runs on a file of these lines."""
     path.write_text("".join(line + "\n" for line in lines))
-    runs = [run(program, path) for _ in range(3)]
+    runs = [timed([program, "replay", path]) for _ in range(3)]
     if any(answer != f"yes: {len(lines)} rows, 0 roots\n" for answer, _ in runs):
         sys.exit(runs[0][0])
     return min(spent for _, spent in runs)

@@ -18,7 +18,8 @@ LINES = {
     3: r"fault: (ReadFault|WriteFault)",
 }
 
-# What a run printed and how it ended, its seconds of a processor, and its peak of megabytes.
+# What a run printed and how it ended, its seconds of a processor, and its peak of megabytes, which
+# is that of the script where that is more.
 Ran = collections.namedtuple("Ran", "text status seconds peak")
 
 
