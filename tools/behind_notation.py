@@ -6,7 +6,7 @@ file is of a rule, `name | parts`, which are those of the rule. It has its sourc
 nodes after `rows` as in `recipe_notation.py`, whose premises are sources or earlier rows, and after
 `gives` for each label the source or the row that it is.
 """
-from recipe_notation import Node, Recipe, judgement, lines, normal_judgement, unknown
+from recipe_notation import Node, Recipe, lines, normal_judgement, unknown
 from rule_notation import families
 
 # The labels, and their variants of `Label`.
@@ -101,7 +101,7 @@ class Entries(Recipe):
         at = unknown(self.parts)
         said = {node.name: node.text for node in self.nodes}
         for label, name in self.outs:
-            stated = normal_judgement(judgement(said[name], self.names), at)
+            stated = normal_judgement(self.judgement(said[name]), at)
             due = normal_judgement(behind(label, self.rule.gives), at)
             assert stated == due, (self.name, label, stated, due)
 

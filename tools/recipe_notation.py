@@ -16,7 +16,7 @@ ends the reading: both are compared in normal form, with the parts unknown.
 """
 import re
 
-from rule_notation import BINDS, DERIVED, KINDS, OPERATORS, Reader, families, split
+from rule_notation import BINDS, DERIVED, KINDS, Reader, families, judgement
 
 LINE = re.compile(r"(\w+)\s+(.*?)\s*by (\S+) ?(.*?)(?: of (.*))?$")
 
@@ -41,20 +41,6 @@ class Things(Reader):
             return self.marked(self.names[word])
         return super().atom()
 
-    def marked(self, tree):
-        """What is done to a tree: the marks of `Reader.atom`, after a name."""
-        while self.peek() in ("+", "{", "["):
-            mark = self.take()
-            if mark == "+":
-                tree = ("weakened", tree)
-            elif mark == "{":
-                tree = ("at", tree, self.tree())
-                self.take("}")
-            else:
-                tree = ("apply", tree, self.substitution())
-                self.take("]")
-        return tree
-
     def substitution_atom(self):
         return self.named(super().substitution_atom())
 
@@ -77,31 +63,6 @@ class Things(Reader):
     def kind(self, kind):
         """A thing of a kind, as a part of a rule."""
         return {"Context": self.context, "Subst": self.substitution, "Term": self.atom}[kind]()
-
-
-def judgement(text, names):
-    """A judgement: its form, and its places in order."""
-    reader = Things(text, names)
-    if " to " in text:
-        sub = reader.substitution()
-        reader.take(":")
-        target = reader.context()
-        reader.take("to")
-        return ("Sb", [target, sub, reader.context()])
-    if reader.peek() == "ctx":
-        reader.take()
-        return ("Ctx", [reader.context()])
-    places, form = [reader.context()], "Ty"
-    reader.take(">>")
-    places.append(reader.tree())
-    for mark, forms in (("=", {"Ty": "TyEq"}), (":", {"Ty": "Tm", "TyEq": "TmEq"})):
-        if reader.peek() == mark:
-            reader.take()
-            places.append(reader.tree())
-            form = forms[form]
-    if reader.peek() is not None:
-        raise ValueError(text)
-    return (form, places)
 
 
 # Normal forms, with the parts unknown. A substitution is a list of trees, the last pushed first,
@@ -274,11 +235,11 @@ class Recipe:
         self.read_rows(sections)
         self.premises = [line.split() for line in lines(sections.get("premises", ""))]
         said = {node.name: node.text for node in self.nodes}
-        self.gives = {label: judgement(said[name], self.names) for label, name in self.outs}
+        self.gives = {label: self.judgement(said[name]) for label, name in self.outs}
         self.check()
 
     def read_rows(self, sections):
-        self.wants = [judgement(line, self.names) for line in lines(sections["from"])]
+        self.wants = [self.judgement(line) for line in lines(sections["from"])]
         self.nodes = [self.node(line) for line in lines(sections["rows"])]
         self.outs = [line.split() for line in lines(sections["gives"])]
 
@@ -288,6 +249,9 @@ class Recipe:
 
     def kinds(self):
         return [KINDS.get(part, "Term") for part in self.parts]
+
+    def judgement(self, said):
+        return judgement(Things(said, self.names))
 
     def thing(self, said):
         """A thing of the kind that it looks like."""
@@ -322,7 +286,7 @@ class Recipe:
         at, said, given = unknown(self.parts), {}, {}
         for node in self.nodes:
             if node.text:
-                said[node.name] = normal_judgement(judgement(node.text, self.names), at)
+                said[node.name] = normal_judgement(self.judgement(node.text), at)
             if node.word == "premise":
                 gives = normal_judgement(self.wanted(node), at)
             elif node.word == "given":

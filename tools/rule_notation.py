@@ -59,9 +59,9 @@ class Rule:
         self.parts = parts.split()
         self.want_texts = self.like.want_texts if self.like else split(wants)
         self.side_texts, self.gives_text = SIDE.findall(sides), gives
-        self.wants = [judgement(want) for want in self.want_texts]
+        self.wants = [judgement(Reader(want)) for want in self.want_texts]
         self.sides = [side(one) for one in self.side_texts]
-        self.gives = judgement(gives)
+        self.gives = judgement(Reader(gives))
         words = self.name.split(".")
         self.variant = "".join(WORDS.get(word, word.capitalize()) for word in words)
 
@@ -155,6 +155,10 @@ class Reader:
             tree = ("make", "i" + word, [])
         else:
             tree = ("make", word, []) if word in OPERATORS else ("part", word)
+        return self.marked(tree)
+
+    def marked(self, tree):
+        """A tree, and what is done to it by the marks that stand next."""
         while self.peek() in ("+", "{", "["):
             mark = self.take()
             if mark == "+":
@@ -200,10 +204,9 @@ class Reader:
         return ctx
 
 
-def judgement(text):
-    """A judgement: its form, and its places in order."""
-    reader = Reader(text)
-    if " to " in text:
+def judgement(reader):
+    """The judgement of a reader's whole text: its form, and its places in order."""
+    if "to" in reader.tokens:
         sub = reader.substitution()
         reader.take(":")
         target = reader.context()
@@ -221,7 +224,7 @@ def judgement(text):
             places.append(reader.tree())
             form = forms[form]
     if reader.peek() is not None:
-        raise ValueError(text)
+        raise ValueError(" ".join(reader.tokens))
     return (form, places)
 
 
