@@ -74,9 +74,9 @@ def functions(count):
 def applications(count):
     file = File()
     nil, nat_there = file.deeper()
-    one, one_node = file.contexts[1]
+    one, _ = file.contexts[1]
     up = file.row("s shift 1")
-    raised = file.row(f"x {file.nat} {up}")
+    file.row(f"x {file.nat} {up}")
     variable = file.row("t var 0")
     is_variable = file.row(f"n tm.var {nil} {file.nat} {nat_there}")
     is_next = file.row(f"n suc {one} {variable} {is_variable}")

@@ -77,7 +77,6 @@ class Entry:
 class Entries(Recipe):
     """The entries of a rule."""
 
-
     def read_rows(self, sections):
         self.rule = self.rules[self.name]
         assert self.parts == self.rule.parts, self.name

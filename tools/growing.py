@@ -12,7 +12,6 @@ import tempfile
 from running import Program
 
 
-
 def named(first, *rest):
     """A module of a definition or two, and then some for each number from 1 on, by those before."""
     def module(size):
@@ -63,7 +62,7 @@ def rotations(size):
     rows += [f"t var {k}" for k in range(33)]
     variables = [*range(7, 39), 6]
     trees = variables
-    for level in range(size + 1):
+    for _ in range(size + 1):
         sub = 5
         for tree in reversed(trees):
             rows.append(f"s push {sub} {tree}")

@@ -476,7 +476,7 @@ def mutated(choose, definitions):
 
 def expected(modules):
     """The line that `check` prints of the last module, and the judgements of the roots; none where a name is out of scope."""
-    scopes, typing, refused = {}, Typing(), None
+    scopes, typing = {}, Typing()
     for name, imports, definitions, _ in modules:
         scope_definitions(reached(modules, imports, scopes, "names"), definitions)
         scopes[name] = {"names": [Entry("definition", definition.name) for definition in definitions]}

@@ -9,7 +9,7 @@ import pathlib
 import textwrap
 
 from recipe_notation import Recipe
-from rule_notation import OPERATORS, families
+from rule_notation import OPERATORS
 
 ROOT = pathlib.Path(__file__).resolve().parent.parent
 
