@@ -3,10 +3,11 @@
 
 usage: python3 bench/checks.py PROGRAM [SHAPE ..] [N ..]
 
-`before`: each definition is the successor of the one before. `first`: each is that of the first one. `lambdas`: each is a function
-of thirty numbers, written as a lambda in a lambda. `teles`: each has a tele of thirty names. A line tells the milliseconds of `check`, each the
-best of three runs, the definitions a second, the bytes of the derivation a definition, the peak of memory, and the milliseconds
-of `replay --of`.
+`before`: each definition is the successor of the one before. `first`: each is that of the first
+one. `lambdas`: each is a function of thirty numbers, written as a lambda in a lambda. `teles`: each
+has a tele of thirty names. A line tells the milliseconds of `check`, each the best of three runs,
+the definitions a second, the bytes of the derivation a definition, the peak of memory, and the
+milliseconds of `replay --of`.
 """
 
 import os
@@ -59,8 +60,9 @@ def measure(program, folder, shape, count):
     judged, replayed = best([program, "replay", "Bench.drv", "--of", "Bench"], folder)
     if not judged.startswith("yes"):
         sys.exit(f"{shape} {count}: replay: {judged}")
-    print(f"{shape} {count}: check {seconds * 1000:.1f} ms, {count / seconds:.0f} definitions a second, "
-          f"{size / count:.0f} bytes a definition, {peak / 1e6:.0f} MB; replay {replayed * 1000:.1f} ms")
+    print(f"{shape} {count}: check {seconds * 1000:.1f} ms, "
+          f"{count / seconds:.0f} definitions a second, {size / count:.0f} bytes a definition, "
+          f"{peak / 1e6:.0f} MB; replay {replayed * 1000:.1f} ms")
 
 
 def main():

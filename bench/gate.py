@@ -1,10 +1,12 @@
 #!/usr/bin/env python3
-"""Measures what the gate costs, crate by crate: processor minutes for code, for tests and for refused edits.
+"""Measures what the gate costs, crate by crate: processor minutes for code, for tests and for
+refused edits.
 
-Runs `rt ci`, or watches one that runs already, and reads from /proc twice a second what each prover under it has taken. A prover
-with `--test` proves tests; one in a crate's folder proves code; one in a copy of its own tries an edit. Other work on the machine
-makes the minutes a little more than they are alone. Where the script is interrupted it prints what it has read so far. It needs
-Linux, Python 3 and `rt`.
+Runs `rt ci`, or watches one that runs already, and reads from /proc twice a second what each prover
+under it has taken. A prover with `--test` proves tests; one in a crate's folder proves code; one in
+a copy of its own tries an edit. Other work on the machine makes the minutes a little more than they
+are alone. Where the script is interrupted it prints what it has read so far. It needs Linux,
+Python 3 and `rt`.
 """
 
 import argparse
@@ -25,7 +27,7 @@ def read(pid, name):
 
 
 def processes():
-    """The parent and the processor seconds of each process, with those of its children that ended."""
+    """The parent and the processor seconds of each process, its children that ended included."""
     found = {}
     for pid in filter(str.isdigit, os.listdir("/proc")):
         stat = read(pid, "stat").rpartition(b")")[2].split()
@@ -48,7 +50,7 @@ def below(root, found):
 
 
 def work_of(pid):
-    """The crate that a prover works at, and whether it is its code, tests or an edit; None for another process."""
+    """The crate that a prover works at, and whether at code, tests or an edit; None for others."""
     words = read(pid, "cmdline").decode(errors="replace").split("\0")
     if "--crate-name" not in words:
         return None
@@ -63,7 +65,9 @@ def work_of(pid):
 
 
 def watch(root, running):
-    """The processor seconds of each crate and kind of work under this process, until it has ended or this script is interrupted."""
+    """The processor seconds of each crate and kind of work under this process, until it has ended
+    or this script is interrupted.
+    """
     seconds = {}
     try:
         while running():
@@ -81,8 +85,15 @@ def watch(root, running):
     return whole
 
 
+def minutes_of(whole, name, kind):
+    """The minutes of a kind of work at a crate, or at all of them."""
+    return sum(taken for (crate, of), taken in whole.items()
+               if of == kind and name in (crate, "all")) / 60
+
+
 def main():
-    asked = argparse.ArgumentParser(description=__doc__, formatter_class=argparse.RawDescriptionHelpFormatter)
+    form = argparse.RawDescriptionHelpFormatter
+    asked = argparse.ArgumentParser(description=__doc__, formatter_class=form)
     asked.add_argument("--pid", type=int, help="the `rt ci` to watch")
     root = asked.parse_args().pid
     if root:
@@ -94,7 +105,7 @@ def main():
     kinds = ["code", "tests", "edits"]
     print(f"{'crate':<20}" + "".join(f"{kind:>8}" for kind in kinds) + f"{'all':>8}")
     for name in names + ["all"]:
-        minutes = [sum(taken for (crate, of), taken in whole.items() if of == kind and name in (crate, "all")) / 60 for kind in kinds]
+        minutes = [minutes_of(whole, name, kind) for kind in kinds]
         print(f"{name:<20}" + "".join(f"{taken:>8.1f}" for taken in minutes + [sum(minutes)]))
 
 

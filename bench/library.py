@@ -1,11 +1,13 @@
 #!/usr/bin/env python3
-"""Builds and runs a program over the crates of this repository, in a copy that is thrown away afterwards.
+"""Builds and runs a program over the crates of this repository, in a copy that is thrown away
+afterwards.
 
 usage: python3 bench/library.py NAME [WORD ..]
 
-The program's text is bench/timing/NAME.txt; it may use each crate that crates.txt lists, or names as used by one. It is
-proved safe like any other program of the repository, built, and run; what it prints is printed. Then it is run for each
-WORD, with that word alone, and a line says how many megabytes of memory that took at its peak.
+The program's text is bench/timing/NAME.txt; it may use each crate that crates.txt lists, or names
+as used by one. It is proved safe like any other program of the repository, built, and run; what it
+prints is printed. Then it is run for each WORD, with that word alone, and a line says how many
+megabytes of memory that took at its peak.
 """
 
 import os
@@ -25,18 +27,20 @@ PROGRAM = "timing"
 def listed(lines):
     """The names of the crates that the lines of crates.txt list, and of those that they use."""
     plain = [line.split("#")[0] for line in lines]
-    crates = [(line.split(":")[0].split()[0], line.split(":")[1].split()) for line in plain if ":" in line]
-    return sorted({name for crate, uses in crates for name in [crate, *uses]})
+    crates = [line.split(":") for line in plain if ":" in line]
+    return sorted({name for crate, uses in crates for name in [crate.split()[0], *uses.split()]})
 
 
 def used(text, names):
     """The crates among those names from which the program brings something in."""
-    return [name for name in names if re.search(rf"^(use |ghost use Rattle\.){name}\b", text, re.MULTILINE)]
+    return [name for name in names
+            if re.search(rf"^(use |ghost use Rattle\.){name}\b", text, re.MULTILINE)]
 
 
 def make(folder, text):
     """Makes the copy in that folder; answers the folder of the program's crate."""
-    shutil.copytree(os.path.join(ROOT, "crates"), os.path.join(folder, "crates"), ignore=shutil.ignore_patterns("out"))
+    shutil.copytree(os.path.join(ROOT, "crates"), os.path.join(folder, "crates"),
+                    ignore=shutil.ignore_patterns("out"))
     with open(os.path.join(ROOT, "crates.txt")) as file:
         lines = file.read().splitlines()
     lines.append(f"{PROGRAM}: {' '.join(used(text, listed(lines)))}")

@@ -3,9 +3,9 @@
 
 usage: python3 bench/loading.py PROGRAM [SHAPE ..] [N ..]
 
-Each of N modules (at most 250) defines the successor of what an imported one defines. `chain`: each imports the one before. `star`: the
-last imports all others. `all`: each imports all before it. A line tells the milliseconds of both, each the best of three runs, and
-the peak of memory of `check`.
+Each of N modules (at most 250) defines the successor of what an imported one defines. `chain`: each
+imports the one before. `star`: the last imports all others. `all`: each imports all before it. A
+line tells the milliseconds of both, each the best of three runs, and the peak of memory of `check`.
 """
 
 import os
@@ -37,7 +37,8 @@ def write(folder, shape, count):
     for at in range(count):
         imports = SHAPES[shape](at, count)
         body = f"suc d{imports[-1]}" if imports else "zero"
-        lines = [f"module M{at} where", *(f"import M{other}" for other in imports), f"d{at} : nat = {body}"]
+        lines = [f"module M{at} where", *(f"import M{other}" for other in imports),
+                 f"d{at} : nat = {body}"]
         pathlib.Path(folder, f"M{at}.ctt").write_text("".join(line + "\n" for line in lines))
 
 
@@ -52,7 +53,8 @@ def measure(program, folder, shape, count):
     judged, replayed = best([program, "replay", f"{last}.drv", "--of", last], folder)
     if not judged.startswith("yes"):
         sys.exit(f"{shape} {count}: replay: {judged}")
-    print(f"{shape} {count}: check {seconds * 1000:.1f} ms, {peak / 1e6:.0f} MB; replay {replayed * 1000:.1f} ms")
+    print(f"{shape} {count}: check {seconds * 1000:.1f} ms, {peak / 1e6:.0f} MB; "
+          f"replay {replayed * 1000:.1f} ms")
 
 
 def main():

@@ -1,11 +1,13 @@
 #!/usr/bin/env python3
-"""Times `ctt replay FILE --of MODULE` on modules of N definitions, each of which uses the one before.
+"""Times `ctt replay FILE --of MODULE` on modules of N definitions, each of which uses the one
+before.
 
 usage: python3 bench/modules.py PROGRAM [SHAPE ..] [N ..]
 
-Each FILE is right, and its roots are the judgements of the module. `suc`: each definition is the successor of the one
-before. `arrow`: the type of functions from the one before to itself, which is so used where it stands and under a variable.
-`binary`: the type of its functions of two arguments, so that it is used under one variable and under two.
+Each FILE is right, and its roots are the judgements of the module. `suc`: each definition is the
+successor of the one before. `arrow`: the type of functions from the one before to itself, which is
+so used where it stands and under a variable. `binary`: the type of its functions of two arguments,
+so that it is used under one variable and under two.
 """
 
 import os
@@ -52,7 +54,8 @@ class SmallTypes(Definitions):
         """The context with a variable of a type, and the node of the shift from there."""
         is_type = self.row(f"n ty.u {context} {tree} {is_tree}")
         longer = self.row(f"c var {context} {tree}")
-        return longer, self.row(f"n sub.wk {context} {self.shifts[by]} {self.nil} {tree} {is_sub} {is_type}")
+        words = f"{context} {self.shifts[by]} {self.nil} {tree} {is_sub} {is_type}"
+        return longer, self.row(f"n sub.wk {words}")
 
     def weakened(self, context, by, is_sub, tree, is_tree):
         """A small type under a shift, and its node."""
@@ -117,7 +120,8 @@ def measure(program, folder, shape, count):
             sys.exit(f"{shape}, {count} definitions: {answer}")
     seconds = min(seconds for _, seconds in runs)
     _, memory = measured(command, folder)
-    print(f"{shape:>6} {count:>7} {seconds:>8.3f} {seconds / count * 1e6:>8.1f} {memory:>12} {memory / count:>7.0f}", flush=True)
+    print(f"{shape:>6} {count:>7} {seconds:>8.3f} {seconds / count * 1e6:>8.1f} {memory:>12} "
+          f"{memory / count:>7.0f}", flush=True)
 
 
 def main():

@@ -3,8 +3,8 @@
 
 usage: python3 bench/peers.py [SHAPE ..] [N ..]
 
-A line tells the shape, the number of definitions, and of each peer that is installed the milliseconds of the best of three runs, less those
-of a module that has the numbers alone.
+A line tells the shape, the number of definitions, and of each peer that is installed the
+milliseconds of the best of three runs, less those of a module that has the numbers alone.
 """
 
 import pathlib
@@ -21,7 +21,7 @@ COQ = "Inductive N : Set := zero : N | suc : N -> N.\n"
 
 
 def body(shape, at):
-    """The type and the body of a definition, as a list of names that its lambda binds, and what it gives."""
+    """A definition, as the list of names that its lambda binds, and what it gives."""
     if shape == "before":
         return [], f"suc d{at - 1}" if at else "zero"
     if shape == "first":
@@ -47,7 +47,8 @@ def coq(shape, at):
 
 
 PEERS = {
-    "agda": (AGDA, agda, "Bench.agda", ["agda", "--no-libraries", "--ignore-interfaces", "Bench.agda"]),
+    "agda": (AGDA, agda, "Bench.agda",
+             ["agda", "--no-libraries", "--ignore-interfaces", "Bench.agda"]),
     "coqc": (COQ, coq, "Bench.v", ["coqc", "-q", "Bench.v"]),
 }
 
@@ -77,7 +78,8 @@ def main():
                 for peer in peers:
                     head, written, _, _ = PEERS[peer]
                     text = head + "".join(written(shape, at) for at in range(count))
-                    told.append(f"{peer} {(seconds(folder, peer, text) - starts[peer]) * 1000:.0f} ms")
+                    taken = seconds(folder, peer, text) - starts[peer]
+                    told.append(f"{peer} {taken * 1000:.0f} ms")
                 print(f"{shape} {count}: {', '.join(told)}")
 
 

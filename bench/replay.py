@@ -3,10 +3,10 @@
 
 usage: python3 bench/replay.py PROGRAM [SHAPE ..] [N ..]
 
-`suc`: successors of zero. `lam`: functions of many arguments, each derived under the context of those
-before it. `app`: one function applied to what it gave before, so that each argument's type is an instance.
-`sub`: a term weakened entry by entry along a context. `comp`: compositions over one line, each of what the
-one before gave, on the face that is true nowhere.
+`suc`: successors of zero. `lam`: functions of many arguments, each derived under the context of
+those before it. `app`: one function applied to what it gave before, so that each argument's type is
+an instance. `sub`: a term weakened entry by entry along a context. `comp`: compositions over one
+line, each of what the one before gave, on the face that is true nowhere.
 """
 
 import os
@@ -35,7 +35,7 @@ class File:
         return self.row(f"n ty.u {context} {self.nat} {universe}")
 
     def deeper(self):
-        """Adds a variable of type nat to the last context; answers that context and that nat is a type there."""
+        """Adds a variable of type nat to the last context; answers that, and nat as its type."""
         context, node = self.contexts[-1]
         nat_there = self.is_type(context, node)
         longer = self.row(f"c var {context} {self.nat}")
@@ -131,7 +131,8 @@ def compositions(count):
     for _ in range(count // 4):
         there = file.row(f"n tm.sub {within} {same} {nil} {tree} {file.nat} {narrowing} {node}")
         equal = file.row(f"n tmeq.absurd {within} {tree} {zero} {file.nat} {there} {side_at_start}")
-        node = file.row(f"n comp {nil} {file.nat} {face} {zero} {tree} {over_line} {side} {node} {equal}")
+        parts = f"{nil} {file.nat} {face} {zero} {tree}"
+        node = file.row(f"n comp {parts} {over_line} {side} {node} {equal}")
         tree = file.row(f"t comp {file.nat} {face} {zero} {tree}")
     return file.text(node)
 
@@ -163,7 +164,8 @@ def main():
     program = os.path.abspath(sys.argv[1])
     shapes = [word for word in sys.argv[2:] if word in SHAPES] or list(SHAPES)
     counts = [int(word) for word in sys.argv[2:] if word.isdigit()] or [10_000, 100_000, 1_000_000]
-    print(f"{'shape':>5} {'rows':>9} {'bytes':>10} {'seconds':>8} {'rows/s':>10} {'MB/s':>6} {'memory':>12} {'a row':>6}")
+    print(f"{'shape':>5} {'rows':>9} {'bytes':>10} {'seconds':>8} {'rows/s':>10} {'MB/s':>6} "
+          f"{'memory':>12} {'a row':>6}")
     with tempfile.TemporaryDirectory() as folder:
         for shape in shapes:
             for count in counts:

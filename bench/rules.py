@@ -3,7 +3,8 @@
 
 usage: python3 bench/rules.py PROGRAM [N] [RULE ..]
 
-A line tells a family's rows a second, and those of its slowest rule alone; with the names of rules, those of each of these alone.
+A line tells a family's rows a second, and those of its slowest rule alone; with the names of rules,
+those of each of these alone.
 """
 
 import os
@@ -20,7 +21,8 @@ def time_rules(program, path, count, names):
     """Tells how fast nodes of each of these rules alone are judged."""
     for file in rule_cases.files():
         uses, empty = file.uses(), seconds(program, path, file.rows)
-        for name in (rule.name for family in file.families for rule in family.rules if rule.name in names):
+        rules = (rule.name for family in file.families for rule in family.rules)
+        for name in (name for name in rules if name in names):
             spent = seconds(program, path, file.rows + [" ".join(uses[name])] * count) - empty
             print(f"{name:<12} {count / spent:>10.0f}")
 

@@ -15,8 +15,8 @@ def timed(command, folder=None):
 def measured(command, folder=None):
     """What one run of a command prints, and the peak of its memory in bytes, as GNU time tells it.
 
-    What Python itself starts begins in Python's memory, so that `os.wait4` tells at least as much as
-    the script takes.
+    What Python itself starts begins in Python's memory, so that `os.wait4` tells at least as much
+    as the script takes.
     """
     with tempfile.NamedTemporaryFile("r") as told:
         words = ["/usr/bin/time", "-o", told.name, "-f", "%M", *command]

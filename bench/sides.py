@@ -119,7 +119,8 @@ def main():
         for shape, count in ((is_face, 2000), (holds, 2000), (twenty_faces, 1000), (shared, 200)):
             rows, nodes = shape(count)
             spent = seconds(program, path, rows.lines + nodes) - seconds(program, path, rows.lines)
-            print(f"{shape.__doc__.splitlines()[0]:<80} {spent / count * 1e6:>8.1f} microseconds a node")
+            about = shape.__doc__.splitlines()[0]
+            print(f"{about:<80} {spent / count * 1e6:>8.1f} microseconds a node")
 
 
 if __name__ == "__main__":

@@ -1,10 +1,12 @@
 #!/usr/bin/env python3
-"""Lists what takes longest in the proof of a crate: the parts of it that a check writes, by the time since the part before.
+"""Lists what takes longest in the proof of a crate: the parts of it that a check writes, by the
+time since the part before.
 
-Run it after a check from nothing, as `rm -rf out/incremental; rt check --jobs 1` (or `rt check --test --jobs 1`) in the crate's folder.
-`Lts` is the borrow checker's part of a function, which grows with the values that are dropped on its early returns; `Answers` holds the
-answers to its goals; in a cycle of calls, `Tie` puts the functions together. The first part counts from the one before it, so the start
-of the check is left out.
+Run it after a check from nothing, as `rm -rf out/incremental; rt check --jobs 1` (or
+`rt check --test --jobs 1`) in the crate's folder. `Lts` is the borrow checker's part of a function,
+which grows with the values that are dropped on its early returns; `Answers` holds the answers to
+its goals; in a cycle of calls, `Tie` puts the functions together. The first part counts from the
+one before it, so the start of the check is left out.
 
     python3 bench/slowest.py CRATE [N]
 """
@@ -18,7 +20,7 @@ CRATES = pathlib.Path(__file__).resolve().parent.parent / "crates"
 
 
 def part_of(path, crate):
-    """The part of a crate's proof that a written file belongs to, as `proofs.places.Under.bind.Proof`."""
+    """The part of a crate's proof that a file belongs to, as `proofs.places.Under.bind.Proof`."""
     name = re.sub(r"(\.decls)?\.oantt$", "", path.name)
     return name.removeprefix(f"Rattle-{crate}-")
 

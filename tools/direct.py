@@ -2,14 +2,15 @@
 """Types the definitions of modules that hold as they stand, in the plainest way: trees are written
 out, names are looked up, and types are compared as trees.
 
-It shares nothing with the program, so that tests have what they expect from outside: what is direct,
-and which judgements a module states. `docs/LANGUAGE.md` says it in words.
+It shares nothing with the program, so that tests have what they expect from outside: what is
+direct, and which judgements a module states. `docs/LANGUAGE.md` says it in words.
 
-Expressions are tuples: ("id", name), ("U",), ("apply", head, elements), ("pi", teles, body), ("sigma", teles,
-body), ("arrow", left, right), ("lambda", teles, body), ("names", names, body), ("project", pair, numbers),
-("tuple", components), ("pathp", line, left, right), ("comp", line, base), ("fill", line, base), ("transport",
-line, base), ("let", definitions, body). A tele is (names, type), an element ("argument", expression) or
-("at", formula), a formula ("0",), ("1",), ("id", name), ("-", f), ("/\\\\", f, g) or ("\\\\/", f, g).
+Expressions are tuples: ("id", name), ("U",), ("apply", head, elements), ("pi", teles, body),
+("sigma", teles, body), ("arrow", left, right), ("lambda", teles, body), ("names", names, body),
+("project", pair, numbers), ("tuple", components), ("pathp", line, left, right), ("comp", line,
+base), ("fill", line, base), ("transport", line, base), ("let", definitions, body). A tele is
+(names, type), an element ("argument", expression) or ("at", formula), a formula ("0",), ("1",),
+("id", name), ("-", f), ("/\\\\", f, g) or ("\\\\/", f, g).
 """
 import dataclasses
 
@@ -41,7 +42,9 @@ class Definition:
 
 @dataclasses.dataclass(frozen=True)
 class Entry:
-    """Of a place: a variable with its type, a name of the interval, or a definition with its type and body."""
+    """Of a place: a variable with its type, a name of the interval, or a definition with its type
+    and body.
+    """
     kind: str
     name: str
     type: tuple = ()
@@ -133,7 +136,7 @@ class Typing:
         return self.check(place, expression, U)
 
     def formed(self, place, expression, kind):
-        """A type of functions, pairs or paths whose parts are taken by `kind`; none where it is another form."""
+        """A type of functions, pairs or paths whose parts `kind` takes; none of another form."""
         if expression[0] in ("pi", "sigma"):
             inner, domains = self.bind(place, expression[1], kind)
             tree = kind(inner, expression[2])
@@ -257,10 +260,13 @@ class Typing:
     def named(self, place, name):
         entry, behind = place.find(name)
         if entry is None:
-            return {"nat": (NAT, U), "zero": (("zero",), NAT), "suc": (SUCCESSOR, ("pi", NAT, NAT))}[name]
+            found = {"nat": (NAT, U), "zero": (("zero",), NAT),
+                     "suc": (SUCCESSOR, ("pi", NAT, NAT))}
+            return found[name]
         if entry.kind == "variable":
             return ("var", behind), weakened(entry.type, behind + 1)
-        if not entry.body:  # a name of the interval, or a definition that is known by its name alone
+        # a name of the interval, or a definition that is known by its name alone
+        if not entry.body:
             raise OutOfScope(name)
         return weakened(entry.body, behind), weakened(entry.type, behind)
 
@@ -307,7 +313,8 @@ def formula(place, written):
         return ("i" + word,)
     if word == "id":
         return ("var", place.find(parts[0])[1])
-    return ({"-": "neg", "/\\": "min", "\\/": "max"}[word], *(formula(place, part) for part in parts))
+    operator = {"-": "neg", "/\\": "min", "\\/": "max"}[word]
+    return (operator, *(formula(place, part) for part in parts))
 
 
 # Scopes: names alone, so that a fault is seen wherever it stands.
@@ -345,7 +352,7 @@ def scope(place, expression):
     form, *parts = expression
     if form == "id":
         entry = place.find(parts[0])[0]
-        if (entry is not None and entry.kind == "interval") or (entry is None and parts[0] == "natrec"):
+        if (parts[0] == "natrec") if entry is None else (entry.kind == "interval"):
             raise OutOfScope(parts[0])
     elif form in ("pi", "sigma", "lambda"):
         scope(scope_teles(place, parts[0]), parts[1])

@@ -3,8 +3,9 @@
 
     python3 tools/growing.py PROGRAM [SIZE [NAME ..]]
 
-tells for each the seconds of `check` and of `replay --of`, or of `replay`, and the bytes that are stored, at this size (10 where none is
-given), twice and four times it. They should grow as the size does; where they grow faster, the page of the bench says so.
+tells for each the seconds of `check` and of `replay --of`, or of `replay`, and the bytes that are
+stored, at this size (10 where none is given), twice and four times it. They should grow as the size
+does; where they grow faster, the page of the bench says so.
 """
 import sys
 import tempfile

@@ -1,11 +1,13 @@
 #!/usr/bin/env python3
-"""Tries edits that the prover must refuse and that the gate does not try: tools/edits/CRATE/NAME.edit.
+"""Tries edits that the prover must refuse and that the gate does not try:
+tools/edits/CRATE/NAME.edit.
 
     tools/try_edits.py [CRATE ..]
 
-Without words it says of each edit whether it can be applied, which takes no time: the text that it changes stands exactly once in its
-file. With words it makes a copy of the repository's crates in which these edits stand in place of those of the gate, and runs
-`rt must-fail` there, which proves what stands below each crate first. The copy is thrown away afterwards. It needs Python 3 and `rt`.
+Without words it says of each edit whether it can be applied, which takes no time: the text that it
+changes stands exactly once in its file. With words it makes a copy of the repository's crates in
+which these edits stand in place of those of the gate, and runs `rt must-fail` there, which proves
+what stands below each crate first. The copy is thrown away afterwards. It needs Python 3 and `rt`.
 """
 
 import pathlib
@@ -36,14 +38,18 @@ def fault(edit, crate):
     return None
 
 
+def edits():
+    return sorted(EDITS.glob("*/*.edit"))
+
+
 def lost():
     """The edits that cannot be applied, each with why."""
-    found = [(edit, fault(edit, ROOT / "crates" / edit.parent.name)) for edit in sorted(EDITS.glob("*/*.edit"))]
+    found = [(edit, fault(edit, ROOT / "crates" / edit.parent.name)) for edit in edits()]
     return [f"{edit.relative_to(ROOT)}: {why}" for edit, why in found if why]
 
 
 def tried(names):
-    """The status of `rt must-fail` on a copy in which the edits of tools/edits are those of these crates."""
+    """The status of `rt must-fail` on a copy where these crates have the edits of tools/edits."""
     with tempfile.TemporaryDirectory() as folder:
         shutil.copy(ROOT / "crates.txt", folder)
         shutil.copytree(ROOT / "crates", f"{folder}/crates", symlinks=True)
@@ -62,7 +68,7 @@ def main(names):
         sys.exit(tried(names))
     wrong = lost()
     print("".join(f"{line}\n" for line in wrong), end="")
-    print(f"try_edits: {len(list(EDITS.glob('*/*.edit')))} edits, {len(wrong)} that cannot be applied")
+    print(f"try_edits: {len(edits())} edits, {len(wrong)} that cannot be applied")
     sys.exit(bool(wrong))
 
 

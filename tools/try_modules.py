@@ -3,9 +3,11 @@
 
 usage: python3 tools/try_modules.py PROGRAM [COUNT] [SEED]
 
-Each module and what it imports are made at random, so that most definitions are direct, and then some of their parts are exchanged. The answer,
-its place, and the roots of the derivation must be what `direct.py` says, whose trees are written out; the derivation must be right by `judge.py`,
-and of that module by `replay --of`. What differs is printed, with the folder that holds it; the status says whether anything did.
+Each module and what it imports are made at random, so that most definitions are direct, and then
+some of their parts are exchanged. The answer, its place, and the roots of the derivation must be
+what `direct.py` says, whose trees are written out; the derivation must be right by `judge.py`, and
+of that module by `replay --of`. What differs is printed, with the modules; the status says whether
+anything did.
 """
 import pathlib
 import random
@@ -14,7 +16,12 @@ import sys
 import tempfile
 
 import judge
-from direct import FAMILIES, NAT, U, Definition, Entry, NotDirect, OutOfScope, Place, Typing, scope_definitions, weakened
+from direct import (FAMILIES, NAT, U, Definition, Entry, NotDirect, OutOfScope, Place, Typing,
+                    scope_definitions, weakened)
+
+# The levels of forms that may need brackets, as those of places where they stand.
+LEVELS = {"let": 0, "lambda": 0, "names": 0, "pi": 1, "sigma": 1, "arrow": 1, "apply": 2,
+          "pathp": 3, "comp": 3, "fill": 3, "transport": 3, "project": 4}
 
 NAMES = ["a", "b", "f", "g", "x", "y", "z", "A", "B", "P"]
 ENDS = ["i", "j", "k"]
@@ -64,10 +71,12 @@ class Printer:
             self.text += ")"
 
     def expression(self, expression, level, indent):
-        """An expression where one of this level may stand, in brackets where it must be, and at times where it need not."""
+        """An expression where one of this level may stand, in brackets where it must be, and at
+        times where it need not.
+        """
         form, *parts = expression
-        own = {"let": 0, "lambda": 0, "names": 0, "pi": 1, "sigma": 1, "arrow": 1, "apply": 2, "pathp": 3, "comp": 3, "fill": 3, "transport": 3, "project": 4}
-        bracketed = own.get(form, 5) < level or (level == 0 and form != "tuple" and self.choose.random() < 0.02)
+        bracketed = LEVELS.get(form, 5) < level or (
+            level == 0 and form != "tuple" and self.choose.random() < 0.02)
         self.text += "(" if bracketed else ""
         getattr(self, form.lower())(indent, *parts)
         self.text += ")" if bracketed else ""
@@ -187,7 +196,7 @@ class Maker:
         if word in ("nat", "zero"):
             return self.built_in(place, word)
         if word == "suc":
-            return ("apply", self.built_in(place, "suc"), [("argument", self.written(place, kids[0]))])
+            return applied(self.built_in(place, "suc"), self.written(place, kids[0]))
         if word in ("pi", "sig", "lam"):
             name = self.fresh(NAMES)
             inner = place.under(Entry("variable", name, kids[0]))
@@ -196,15 +205,17 @@ class Maker:
         if word in ("pathp", "plam"):
             name = self.fresh(ENDS)
             line = ("names", [name], self.written(place.under(Entry("interval", name)), kids[0]))
-            return line if word == "plam" else ("pathp", line, self.written(place, kids[1]), self.written(place, kids[2]))
+            ends = [self.written(place, kid) for kid in kids[1:]]
+            return line if word == "plam" else ("pathp", line, *ends)
         if word == "app":
-            return ("apply", self.written(place, kids[0]), [("argument", self.written(place, kids[1]))])
+            return applied(self.written(place, kids[0]), self.written(place, kids[1]))
         if word in ("fst", "snd"):
             return ("project", self.written(place, kids[0]), [1 if word == "fst" else 2])
         if word == "pair":
             return ("tuple", [self.written(place, kids[0]), self.written(place, kids[1])])
         if word == "papp":
-            return ("apply", self.written(place, kids[0]), [("at", self.written_formula(place, kids[1]))])
+            path = self.written(place, kids[0])
+            return ("apply", path, [("at", self.written_formula(place, kids[1]))])
         raise Stuck
 
     def written_formula(self, place, tree):
@@ -213,7 +224,8 @@ class Maker:
             return self.variable(place, kids[0])
         if word in ("i0", "i1"):
             return (word[1],)
-        return ({"neg": "-", "min": "/\\", "max": "\\/"}[word], *(self.written_formula(place, kid) for kid in kids))
+        sign = {"neg": "-", "min": "/\\", "max": "\\/"}[word]
+        return (sign, *(self.written_formula(place, kid) for kid in kids))
 
     def built_in(self, place, word):
         if not place.is_built_in(("id", word), word):
@@ -237,7 +249,8 @@ class Maker:
         for name in {entry.name for entry in place} - {"_"}:
             entry, behind = place.find(name)
             if entry.kind in kinds:
-                found.append((name, weakened(entry.type, behind + (entry.kind == "variable")) if entry.type else ()))
+                shift = behind + (entry.kind == "variable")
+                found.append((name, weakened(entry.type, shift) if entry.type else ()))
         return sorted(found, key=lambda pair: pair[0])
 
     # types
@@ -246,7 +259,8 @@ class Maker:
         """An expression that is a type, with its tree."""
         choices = [self.numbers]
         if fuel > 0:
-            choices += [self.binding, self.binding, self.binding, self.paths, self.universe, self.named_type, self.local_type]
+            choices += [self.binding, self.binding, self.binding, self.paths, self.universe,
+                        self.named_type, self.local_type]
         return self.typed(place, self.choose.choice(choices)(place, fuel))
 
     def typed(self, place, expression):
@@ -274,7 +288,8 @@ class Maker:
             tree = weakened(tree)
         form = self.choose.choice(["pi", "pi", "arrow", "sigma"])
         if form == "arrow":
-            return ("arrow", domain, self.type(place.under(Entry("variable", "_", tree)), fuel - 1)[0])
+            inner = place.under(Entry("variable", "_", tree))
+            return ("arrow", domain, self.type(inner, fuel - 1)[0])
         return (form, [(names, domain)], self.type(inner, fuel - 1)[0])
 
     def paths(self, place, fuel):
@@ -282,7 +297,8 @@ class Maker:
         line, tree = self.type(place.under(Entry("interval", name)), fuel - 1)
         left = self.term(place, judge.MADE["at"](tree, ("i0",)), fuel - 1)
         right = self.term(place, judge.MADE["at"](tree, ("i1",)), fuel - 1)
-        return ("pathp", ("names", [name], line), left, right if self.choose.random() < 0.5 else left)
+        right = right if self.choose.random() < 0.5 else left
+        return ("pathp", ("names", [name], line), left, right)
 
     # terms
 
@@ -310,7 +326,8 @@ class Maker:
     def ways(self, wanted, fuel):
         if fuel <= 0:
             return [lambda place, wanted, fuel: self.simple(place, wanted)]
-        ways = [self.introduced, self.introduced, self.eliminated, self.eliminated, self.eliminated, self.local, self.transported]
+        ways = [self.introduced, self.introduced, self.eliminated, self.eliminated,
+                self.eliminated, self.local, self.transported]
         return ways + [lambda place, wanted, fuel: self.simple(place, wanted)]
 
     def introduced(self, place, wanted, fuel):
@@ -324,19 +341,23 @@ class Maker:
         if word == "pi":
             name = self.fresh(NAMES)
             inner = place.under(Entry("variable", name, kids[0]))
-            return ("lambda", [([name], self.written(place, kids[0]))], self.term(inner, kids[1], fuel - 1))
+            tele = ([name], self.written(place, kids[0]))
+            return ("lambda", [tele], self.term(inner, kids[1], fuel - 1))
         if word == "sig":
             first = self.term(place, kids[0], fuel - 1)
             tree = Typing().check(place, first, kids[0])
             second = self.term(place, judge.MADE["at"](kids[1], tree), fuel - 1)
-            return ("tuple", [first, *second[1]] if second[0] == "tuple" and self.choose.random() < 0.5 else [first, second])
+            if second[0] == "tuple" and self.choose.random() < 0.5:
+                return ("tuple", [first, *second[1]])
+            return ("tuple", [first, second])
         if word == "pathp":
             name = self.fresh(ENDS)
-            return ("names", [name], self.written(place.under(Entry("interval", name)), weakened(kids[1])))
+            inner = place.under(Entry("interval", name))
+            return ("names", [name], self.written(inner, weakened(kids[1])))
         raise Stuck
 
     def successor(self, place, fuel):
-        return ("apply", self.built_in(place, "suc"), [("argument", self.term(place, NAT, fuel - 1))])
+        return applied(self.built_in(place, "suc"), self.term(place, NAT, fuel - 1))
 
     def recursion(self, place, fuel):
         families = [name for name, kind in self.seen(place) if kind == FAMILIES]
@@ -347,18 +368,20 @@ class Maker:
         if families and self.choose.random() < 0.7:
             written = ("id", self.choose.choice(families))
             tree = Typing().motive(place, written)
-        step = ("pi", NAT, ("pi", tree, judge.apply(tree, judge.push(judge.shift_by(2), ("suc", ("var", 1))))))
+        next_one = judge.push(judge.shift_by(2), ("suc", ("var", 1)))
+        step = ("pi", NAT, ("pi", tree, judge.apply(tree, next_one)))
         arguments = [
             written,
             self.term(place, judge.MADE["at"](tree, ("zero",)), fuel - 1),
             self.term(place, step, fuel - 1),
             self.term(place, NAT, fuel - 1),
         ]
-        return ("apply", self.built_in(place, "natrec"), [("argument", argument) for argument in arguments])
+        return applied(self.built_in(place, "natrec"), *arguments)
 
     def eliminated(self, place, wanted, fuel):
         """A name, applied and projected until it has the type."""
-        names = [name for name, kind in self.seen(place) if kind and kind[0] in ("pi", "sig", "pathp")]
+        names = [name for name, kind in self.seen(place)
+                 if kind and kind[0] in ("pi", "sig", "pathp")]
         if not names:
             raise Stuck
         found = ("id", self.choose.choice(names))
@@ -367,7 +390,7 @@ class Maker:
             if kind == wanted:
                 return found
             if kind[0] == "pi":
-                found = ("apply", found, [("argument", self.term(place, kind[1], fuel - 1))])
+                found = applied(found, self.term(place, kind[1], fuel - 1))
             elif kind[0] == "sig":
                 found = ("project", found, [self.choose.choice([1, 2])])
             elif kind[0] == "pathp":
@@ -393,7 +416,8 @@ class Maker:
             start = Typing().infer(place, ("apply", line, [("at", ("0",))]))[0]
             return ("transport", line, self.term(place, start, fuel - 1))
         name = self.fresh(ENDS)
-        line = ("names", [name], self.written(place.under(Entry("interval", name)), weakened(wanted)))
+        inner = place.under(Entry("interval", name))
+        line = ("names", [name], self.written(inner, weakened(wanted)))
         return (self.choose.choice(["transport", "comp"]), line, self.term(place, wanted, fuel - 1))
 
     # definitions
@@ -421,6 +445,10 @@ class Maker:
         return Definition(name, teles, written, self.term(inner, tree, fuel), where)
 
 
+def applied(head, *arguments):
+    return ("apply", head, [("argument", argument) for argument in arguments])
+
+
 def joined(found):
     """An application of an application as one, and so for projections."""
     form, head, rest = found
@@ -431,7 +459,8 @@ def direct_module(choose):
     """The text of a module `M` whose definitions are direct."""
     while True:
         try:
-            _, definitions = Maker(choose).definitions(Place(), choose.choice([2, 3, 4, 5]), choose.choice([1, 2, 3]))
+            count, fuel = choose.choice([2, 3, 4, 5]), choose.choice([1, 2, 3])
+            _, definitions = Maker(choose).definitions(Place(), count, fuel)
             return Printer(choose).module("M", [], definitions)
         except (NotDirect, Stuck, OutOfScope):
             pass
@@ -440,13 +469,17 @@ def direct_module(choose):
 # Parts exchanged.
 
 
+NO_FORMS = ("argument", "at", "0", "1", "-", "/\\", "\\/")
+
+
 def parts_of(thing, path=()):
     """The expressions in a thing, by the ways that lead to them."""
     if isinstance(thing, Definition):
         for field in ("teles", "type", "body", "where"):
             yield from parts_of(getattr(thing, field), (*path, field))
     elif isinstance(thing, (tuple, list)):
-        if isinstance(thing, tuple) and thing and isinstance(thing[0], str) and thing[0] not in ("argument", "at", "0", "1", "-", "/\\", "\\/"):
+        word = thing[0] if isinstance(thing, tuple) and thing else None
+        if isinstance(word, str) and word not in NO_FORMS:
             yield path, thing
         for number, part in enumerate(thing):
             if not (isinstance(thing, tuple) and thing[:1] == ("at",)):
@@ -459,14 +492,16 @@ def exchanged(thing, path, part):
     first, *rest = path
     if isinstance(thing, Definition):
         return Definition(**{**vars(thing), first: exchanged(getattr(thing, first), rest, part)})
-    return type(thing)(exchanged(old, rest, part) if number == first else old for number, old in enumerate(thing))
+    return type(thing)(exchanged(old, rest, part) if number == first else old
+                       for number, old in enumerate(thing))
 
 
 def mutated(choose, definitions):
     """The definitions with one part exchanged for another one, or for a small one."""
     parts = list(parts_of(definitions))
     path, _ = choose.choice(parts)
-    small = [U, ("id", "nat"), ("id", "zero"), ("id", "suc"), ("id", choose.choice(NAMES)), ("fill", ("names", ["i"], ("id", "nat")), ("id", "zero"))]
+    small = [U, ("id", "nat"), ("id", "zero"), ("id", "suc"), ("id", choose.choice(NAMES)),
+             ("fill", ("names", ["i"], ("id", "nat")), ("id", "zero"))]
     part = choose.choice(parts)[1] if choose.random() < 0.5 else choose.choice(small)
     return exchanged(definitions, path, part)
 
@@ -475,11 +510,14 @@ def mutated(choose, definitions):
 
 
 def expected(modules):
-    """The line that `check` prints of the last module, and the judgements of the roots; none where a name is out of scope."""
+    """The line that `check` prints of the last module, and the judgements of the roots. A name that
+    is out of scope is raised.
+    """
     scopes, typing = {}, Typing()
     for name, imports, definitions, _ in modules:
         scope_definitions(reached(modules, imports, scopes, "names"), definitions)
-        scopes[name] = {"names": [Entry("definition", definition.name) for definition in definitions]}
+        names = [Entry("definition", definition.name) for definition in definitions]
+        scopes[name] = {"names": names}
     for name, imports, definitions, places in modules:
         place = reached(modules, imports, scopes, "typed")
         for definition, at in zip(definitions, places):
@@ -497,7 +535,8 @@ def reached(modules, imports, scopes, kind):
     for name, others, _, _ in reversed(modules):
         if name in found:
             found |= set(others)
-    return Place(entry for name, _, _, _ in modules if name in found for entry in scopes[name][kind])
+    return Place(entry for name, _, _, _ in modules if name in found
+                 for entry in scopes[name][kind])
 
 
 def roots(lines):
@@ -508,14 +547,19 @@ def roots(lines):
 
 
 def made(choose):
-    """Modules, each after those that it imports: its name, its imports, its definitions, and where their names stand."""
+    """Modules, each after those that it imports: its name, its imports, its definitions, where
+    their names stand, and its text.
+    """
     modules, place = [], Place()
     names = ["M", "N", "O"][3 - choose.choice([1, 1, 2, 3]):]
     scopes = {}
     for number, name in enumerate(names):
-        imports = [other for other in names[:number] if choose.random() < 0.7] if number + 1 < len(names) else names[:number]
+        imports = names[:number]
+        if number + 1 < len(names):
+            imports = [other for other in imports if choose.random() < 0.7]
         place = reached([module[:4] for module in modules], imports, scopes, "typed")
-        _, definitions = Maker(choose).definitions(place, choose.choice([1, 2, 3]), choose.choice([1, 2, 3]))
+        count, fuel = choose.choice([1, 2, 3]), choose.choice([1, 2, 3])
+        _, definitions = Maker(choose).definitions(place, count, fuel)
         if choose.random() < 0.25:
             definitions = mutated(choose, definitions)
         printer = Printer(choose)
@@ -542,16 +586,19 @@ def seen(program, folder, modules):
         return f"printed {printed!r}, expected {line!r}"
     if line.startswith("no"):
         return "a file is stored" if stored.exists() else None
-    wanted = [judgement for context, kind, body in judgements for judgement in (("Ty", context, kind), ("Tm", context, body, kind))]
+    wanted = [judgement for context, kind, body in judgements
+              for judgement in (("Ty", context, kind), ("Tm", context, body, kind))]
     found = roots(stored.read_text().splitlines())
     if found != wanted:
         return f"roots {found}, expected {wanted}"
     again = run(program, folder, "replay", stored.name, "--of", last)
-    return None if again.startswith("yes") and again.endswith(f" {len(wanted)} roots\n") else f"replay printed {again!r}"
+    is_so = again.startswith("yes") and again.endswith(f" {len(wanted)} roots\n")
+    return None if is_so else f"replay printed {again!r}"
 
 
 def run(program, folder, *words):
-    return subprocess.run([program, *words], cwd=folder, capture_output=True, text=True, timeout=120).stdout
+    ran = subprocess.run([program, *words], cwd=folder, capture_output=True, text=True, timeout=120)
+    return ran.stdout
 
 
 def main():
@@ -580,7 +627,8 @@ def main():
                 print(f"seed {seed}: {different}")
                 for module in modules:
                     print(module[4])
-            told["different" if different else "yes" if pathlib.Path(folder, f"{modules[-1][0]}.drv").exists() else "no"] += 1
+            stored = pathlib.Path(folder, f"{modules[-1][0]}.drv").exists()
+            told["different" if different else "yes" if stored else "no"] += 1
     print(", ".join(f"{word}: {number}" for word, number in told.items()))
     sys.exit(told["different"] > 0)
 

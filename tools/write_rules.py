@@ -213,12 +213,16 @@ def numbers(found):
     places = {rule.name: at for at, rule in enumerate(by_name(found))}
     lines = []
     for family in found:
-        arms = [f"        {family.enum}::{rule.variant} => {places[rule.name]}," for rule in family.rules]
-        lines += function(f"fn {family.word}_number(rule: {family.enum}) -> u64",
-                          f"slice_get RULES.now result ≡ Some (RuleName.{family.variant} rule)", arms) + [""]
-    arms = [f"        RuleName::{family.variant}(rule) => {family.word}_number(rule)," for family in found]
-    lines.append("/// The number of a rule among all of them, which are in the order of their names.")
-    return lines + function("pub fn rule_number(rule: RuleName) -> u64", "slice_get RULES.now result ≡ Some rule", arms)
+        arms = [f"        {family.enum}::{rule.variant} => {places[rule.name]},"
+                for rule in family.rules]
+        gives = f"slice_get RULES.now result ≡ Some (RuleName.{family.variant} rule)"
+        lines += function(f"fn {family.word}_number(rule: {family.enum}) -> u64", gives, arms)
+        lines.append("")
+    arms = [f"        RuleName::{family.variant}(rule) => {family.word}_number(rule),"
+            for family in found]
+    lines += ["/// The number of a rule among all of them, which are in the order of their names."]
+    return lines + function("pub fn rule_number(rule: RuleName) -> u64",
+                            "slice_get RULES.now result ≡ Some rule", arms)
 
 
 def enums(found):
@@ -401,13 +405,15 @@ def kan_operators():
 
 
 def derived_enum(trees):
-    lines = ["/// A tree that is made of others, and that a program of its own makes. What each is stands in",
-             "/// `specs/Table.antt`.", "#[derive(Clone, Copy, Debug, PartialEq, Eq)]",
+    lines = ["/// A tree that is made of others, and that a program of its own makes. "
+             "What each is stands in", "/// `specs/Table.antt`.",
+             "#[derive(Clone, Copy, Debug, PartialEq, Eq)]",
              "pub enum Derived {"]
     lines += [f"    {tree.variant}," for tree in trees] + ["}", ""]
     arms = [f"        Derived::{tree.variant} => {len(tree.parts)}," for tree in trees]
     lines += ["/// The number of trees that a derived tree is made of.",
-              "pub fn arity(derived: Derived) -> usize", "    ensures { result ≡ arity_of derived }",
+              "pub fn arity(derived: Derived) -> usize",
+              "    ensures { result ≡ arity_of derived }",
               "{", "    match derived {", *arms, "    }", "}"]
     return lines
 
@@ -417,7 +423,8 @@ def derived_specs(trees):
     lines += [f"arity_of {tree.variant} = {len(tree.parts)}" for tree in trees]
     lines += ["", "abbrev pub derived : (d : Derived) → TreeOver (arity_of d)"]
     lines += [f"derived {tree.variant} = {tree.name} trees" for tree in trees]
-    lines += ["", "-- the program of each calls those of lower ranks", "abbrev pub rank_of : Derived → ℕ"]
+    lines += ["", "-- the program of each calls those of lower ranks",
+              "abbrev pub rank_of : Derived → ℕ"]
     lines += [f"rank_of {tree.variant} = {tree.rank}" for tree in trees]
     lines += ["", "-- how many rows the program of each makes", "abbrev pub rows_of : Derived → ℕ"]
     return lines + [f"rows_of {tree.variant} = {tree.rows}" for tree in trees]
@@ -548,7 +555,8 @@ def main():
     put_imports(stable, [family for family in found if family.variant in STABLE])
     trees = derived_trees(kan_operators())
     put(RULES / "src" / "derived.rt", f"// {BEGIN}", [""] + derived_enum(trees) + [""])
-    put(RULES / "specs" / "DerivedTrees.antt", f"-- {BEGIN}", [""] + derived_specs(trees) + [""], f"-- {END}")
+    put(RULES / "specs" / "DerivedTrees.antt", f"-- {BEGIN}", [""] + derived_specs(trees) + [""],
+        f"-- {END}")
     (RULES / "src" / "table" / "derived.rt").write_text(derived_programs(trees))
     (RULES / "src" / "table" / "named.rt").write_text(named_instructions(found, trees))
 
