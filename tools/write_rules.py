@@ -2,11 +2,13 @@
 """Writes what the repository says of each rule from `rules.txt`, where each rule stands once.
 
 Written are, in place of what stood there: the families and the table of names in
-`theory/src/rule.rt`, signatures in `theory/src/signatures.rt` and `theory/specs/RuleNames.antt`,
-the lines of `rules/specs/Table.antt`, the programs in `rules/src/table/`, those of derived trees
-(`kan_trees.py`), the depths of parts in `stability/specs/Depths.antt`, and the tables of
-`docs/RULES.md`. Nothing of it is trusted: the lines of `Table.antt` are read against `rules.txt` by
-eye, and a wrong signature or program fails its own line. Run `rt fmt` in both crates afterwards.
+`theory/src/rule.rt`, the place of each rule among these in `theory/src/numbers.rt`, signatures in
+`theory/src/signatures.rt` and `theory/specs/RuleNames.antt`, the lines of `rules/specs/Table.antt`,
+the programs in `rules/src/table/`, those of derived trees (`kan_trees.py`) with their names in
+`rules/src/derived.rt` and their bounds in `rules/specs/DerivedTrees.antt`, the depths of parts in
+`stability/specs/Depths.antt`, and the tables of `docs/RULES.md`. Nothing of it is trusted: the
+lines of `Table.antt` are read against `rules.txt` by eye, and a wrong signature or program fails
+its own line. Run `rt fmt` in `theory`, `rules` and `stability` afterwards.
 """
 import copy
 import pathlib
