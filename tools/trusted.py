@@ -24,7 +24,7 @@ CRATES = ROOT / "crates"
 PAGE = ROOT / "docs" / "TRUSTED.md"
 LAYERS = [line.split(":")[0] for line in (ROOT / "crates.txt").read_text().splitlines()]
 
-START = [("session/src/top.rt", "run"), ("edge/src/files.rt", "Files"),
+START = [("ctt/src/main.rt", "run_to_end"), ("edge/src/files.rt", "Files"),
          ("edge/src/streams.rt", "Source"), ("edge/src/streams.rt", "Sink")]
 
 # The parts of the contract, each with the names of definitions that only later parts need.
@@ -42,7 +42,7 @@ Piece = collections.namedtuple("Piece", "path start end names")
 USE = re.compile(r"^(?:ghost |pub )*use ([\w.:]+?)(?:(?:\.|::)\{(.*?)\})?(?: as (\w+))?;?$", re.M)
 OPENS = re.compile(r"(abbrev|unfoldable|pub (?!mod )|data|record|module|mutual|instance)\b")
 HEAD = re.compile(r"( *)((?:abbrev |unfoldable |pub |mutual |data |record )*)"
-                  r"([^\s:(){}\[\]=]+(?: [\w']+)*?)\s*(?:[({].*)?:( |$)")
+                  r"(◌\S+|[^\s:(){}\[\]=]+(?: [\w']+)*?)\s*(?:[({].*)?:( |$)")
 ITEM = r"^(?:pub(?:\(crate\))? )?(enum|struct|const|static|trait|fn) "
 TYPE = ITEM.replace("|trait|fn", "")
 
@@ -88,7 +88,10 @@ def definitions(path):
     lines = lines_of(path)
     starts = [k for k, line in enumerate(lines) if OPENS.match(line)]
     for start, end in zip(starts, starts[1:] + [len(lines)]):
-        yield piece(path, start, end, defined(lines[start:end]))
+        names = list(defined(lines[start:end]))
+        if not names and re.match(r"(pub )?(abbrev|unfoldable|data|record)", lines[start]):
+            sys.exit(f"{path}:{start + 1}: a definition whose name is not read")
+        yield piece(path, start, end, names)
 
 
 def declarations(path):
@@ -254,7 +257,7 @@ def library():
         free_names = {name for clause in clauses(of) for name, _ in free(clause)}
         text = plain("\n".join(lines_of(of.path)[of.start:of.end]))
         for used, names, _ in USE.findall((CRATES / of.path).read_text()):
-            if re.match(r"Rattle\.(std|unicode_ident)\.specs\.|denote\.", used):
+            if re.match(r"Rattle\.((std|unicode_ident)\.specs\.|\w+\.specs\.contracts\.)|denote\.", used):
                 found[used.replace("Rattle.", "")].update(
                     there for there, here in renamed(names) if here in free_names or
                     "◌" in here and all(mark in text for mark in here.split("◌")))
@@ -272,9 +275,10 @@ def table(files, number):
 HEAD_OF_PAGE = """\
 # What is to be read
 
-An answer of the program means what the contract of `session::run` says. This page lists the
-definitions on which that contract rests, closed under what they cite: whoever has read them, and
-believes the prover, knows what an answer means, and need read no body of code and no proof.
+An answer of the program means what the contract of `run_to_end` says, in `ctt/src/main.rt`: that
+of `session::run`, with the number that a status is. This page lists the definitions on which that
+contract rests, closed under what they cite: whoever has read them, and believes the prover, knows
+what an answer means, and need read no body of code and no proof.
 `python3 tools/trusted.py` writes this page anew from the contract, and `--names` prints the
 definitions of each file.
 
@@ -282,7 +286,7 @@ The parts are to be read one after another, and the files of a part in the order
 stand; `crates` is left out before their names. *Lines* are those of the definitions that are
 needed, with their comments and without blank ones; *Of* is the length of the file. A file stands
 in each part that is the first to need some of it. Of code (`.rt`) the types count, and the
-contracts of `run` and of the traits `Files`, `Source` and `Sink`, which are asked of what `run`
+contracts of `run_to_end` and of the traits `Files`, `Source` and `Sink`, which are asked of what it
 is handed.
 """
 
@@ -300,7 +304,8 @@ def page():
                      for each in of for line in lines_of(each.path)[each.start:each.end])
     names = library()
     yield from ["", "## The total", ""]
-    yield f"{total:,} lines, of which {notes:,} are comments, and of the kit's library these names:"
+    yield f"{total:,} lines, of which {notes:,} are comments, and of the kit's library, and of what the"
+    yield "kit makes of types (`contracts`), these names:"
     yield ""
     for used in sorted(names):
         words = f"- `{used}`: " + ", ".join(f"`{name}`" for name in sorted(names[used]))

@@ -1,5 +1,5 @@
 -- What is found of the definitions of a module, stored and told.
-use Rattle.std.proofs.Common.{◌≡◌, ◌<◌, ◌+◌, ℕ, List, [], ◌∷◌, ◌++◌, length, take, slice_index_or, append_assoc, refl, sym, ◌∙◌, ap, subst, Option, Some, Result, Ok, Err, IfOk, Vec, Global}
+use Rattle.std.proofs.Common.{◌≡◌, ◌≢◌, IsErr, ◌<◌, ◌+◌, ℕ, List, [], ◌∷◌, ◌++◌, length, take, slice_index_or, append_assoc, refl, sym, ◌∙◌, ap, subst, Option, Some, Result, Ok, Err, IfOk, Vec, Global}
 use Rattle.std.proofs.lemmas.List.{flat_map_more, take_more}
 use Rattle.std.specs.declared.alloc.AllocError.{AllocError}
 use Rattle.std.specs.List.{AllZip}
@@ -97,9 +97,13 @@ check_derived name bytes count old mid new (Ok told) same is stores =
     (derived bytes count is stores.answer stored stores.told, stored_counted old new stores.answer count told stored.counted stores.told)
 check_derived name bytes count old mid new (Err e) same is stores = tt
 
-pub leave_derived : (name bytes : List ℕ) (count : ℕ) (old mid new : SeenFiles) (r : Result Outcome AllocError) → mid ≡ old → IsDerived old.held name bytes count → Stores name bytes count mid new r → MayLeave name old new
-leave_derived name bytes count old mid new r same is stores =
-    derivation bytes count is stores.answer (subst (λ files. IsStored name bytes files new stores.answer) same stores.stored)
+pub leave_derived : (name bytes : List ℕ) (count : ℕ) (old mid new : SeenFiles) (r : Result Outcome AllocError) → mid ≡ old → IsDerived old.held name bytes count → Stores name bytes count mid new r → IsErr r → MayLeave name old new
+leave_derived name bytes count old mid new (Ok told) same is stores err = cc
+leave_derived name bytes count old mid new (Err e) same is stores err =
+    derivation bytes count is stores.answer (not_failed stores.answer stores.spent) (subst (λ files. IsStored name bytes files new stores.answer) same stores.stored)
+  where
+    not_failed : (answer : Stored) → answer ≡ stored.Memory → answer ≢ stored.Failed
+    not_failed answer e = λ f. cc
 
 -- a definition is refused
 pub check_refused : (name : List ℕ) (old new : SeenFiles) (program : Program) (k : ℕ) (r : Result Outcome AllocError) → IsRead old.held name program → other_place (defs_in program.codes) [] ≡ Some k → StoresNothing old new

@@ -1,25 +1,39 @@
--- What all commands have in common so far.
-use Rattle.std.proofs.Common.{◌≡◌, refl, None, Some, Option}
-use Rattle.edge.specs.Seen.{SeenSource, SeenSink}
+-- What a command leaves whose outcome is known.
+use Rattle.std.proofs.Common.{◌≡◌, ◌≢◌, ℕ, List, subst, None, Some, Option}
+use Rattle.edge.specs.Seen.{SeenFiles}
+use Rattle.edge.specs.declared.files.Stored.{Stored}
+use Rattle.edge.specs.declared.files.Stored.TheVariants as stored
 use Rattle.session.specs.declared.outcome.Outcome.{Outcome}
+use Rattle.session.specs.declared.outcome.Outcome.TheVariants as outcome
 use Rattle.session.specs.Words.{Command, Check, Replay}
-use Rattle.session.specs.Outcomes.{plain_text}
-use Rattle.session.specs.Answers.{text, MayRead, MayPrintBefore}
+use Rattle.session.specs.Checks.{MayCheck, MayLeave, told_stored, nothing, derivation, not_loaded, not_resolved, not_direct, derived}
+use Rattle.session.specs.Answers.{MayAnswer, MayStore}
 
--- they print in plain words
-pub text_is_plain : (command : Option Command) (outcome : Outcome) → text command outcome ≡ plain_text outcome
-text_is_plain None outcome = refl
-text_is_plain (Some (Check name)) outcome = refl
-text_is_plain (Some (Replay path of)) outcome = refl
+-- a store that is told by another line than that of a failed one did not fail
+not_failed : (count : _) (answer : Stored) (told : Outcome) → told_stored count answer ≡ Some told → told ≢ outcome.WriteFault → answer ≢ stored.Failed
+not_failed count stored.Done told is other = λ e. cc
+not_failed count stored.Memory told is other = λ e. cc
+not_failed count stored.Failed told is other = λ e. other (cc is)
 
--- they leave the input alone
-pub reads_nothing : {I : Type 0} (see : I → SeenSource) (command : Option Command) (input : I) → MayRead see command input input
-reads_nothing see None input = refl
-reads_nothing see (Some (Check name)) input = refl
-reads_nothing see (Some (Replay path of)) input = refl
+-- where no failed store is told, a check leaves what it may leave out of memory
+leaves : (name : _) (old new : SeenFiles) (told : Outcome) → told ≢ outcome.WriteFault → MayCheck name old new told → MayLeave name old new
+leaves name old new told other (not_loaded loaded kept) = nothing kept
+leaves name old new told other (not_resolved resolved kept) = nothing kept
+leaves name old new told other (not_direct direct kept) = nothing kept
+leaves name old new told other (derived bytes count is answer stored told_is) =
+    derivation bytes count is answer (not_failed count answer told told_is other) stored
 
--- they print nothing before they are out of memory
-pub prints_nothing : {O : Type 0} (see : O → SeenSink) (command : Option Command) (old new : O) → new ≡ old → MayPrintBefore see command old new
-prints_nothing see None old new same = same
-prints_nothing see (Some (Check name)) old new same = same
-prints_nothing see (Some (Replay path of)) old new same = same
+pub stores : {F : Type 0} (see : F → SeenFiles) (command : Option Command) (One Other : Type 0) (old new : F) (told : Outcome) → MayAnswer command (see old) (see new) told → (Other → told ≢ outcome.WriteFault) → MayStore see command One old new → MayStore see command Other old new
+stores see None One Other old new told may spared stored = stored
+stores see (Some (Check name)) One Other old new told may spared stored = λ spent. leaves name (see old) (see new) told (spared spent) may.0
+stores see (Some (Replay path of)) One Other old new told may spared stored = stored
+
+-- the less often it is out of memory, the less is asked
+pub stores_less : {F : Type 0} (see : F → SeenFiles) (command : Option Command) (One Other : Type 0) (old new : F) → (Other → One) → MayStore see command One old new → MayStore see command Other old new
+stores_less see None One Other old new less stored = stored
+stores_less see (Some (Check name)) One Other old new less stored = λ spent. stored (less spent)
+stores_less see (Some (Replay path of)) One Other old new less stored = stored
+
+-- a check that is out of memory
+pub stores_checked : {F : Type 0} (see : F → SeenFiles) (command : Option Command) (name : List ℕ) (One : Type 0) (old new : F) → Some (Check name) ≡ command → (One → MayLeave name (see old) (see new)) → MayStore see command One old new
+stores_checked see command name One old new is left = subst (λ asked. MayStore see asked One old new) is left

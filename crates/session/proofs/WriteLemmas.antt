@@ -1,7 +1,8 @@
 -- Lemmas on what a loop of writes leaves.
-use Rattle.std.proofs.Common.{◌≡◌, ℕ, List, ◌++◌, length, take, drop, None, Some, Option, Result, Ok, Err, IsErr, ap, sym, ◌∙◌, append_assoc}
+use Rattle.std.proofs.Common.{◌≡◌, ℕ, ◌<◌, Bool, false, List, [], ◌∷◌, ◌++◌, length, length-append, arith, take, drop, None, Some, Option, Result, Ok, Err, IsErr, ap, sym, ◌∙◌, append_assoc}
 use Rattle.std.proofs.lemmas.List.{take-append-drop}
 use Rattle.std.proofs.Math.Seq.{take-append_seam}
+use Rattle.std.specs.Prelude.{◌==◌}
 use Rattle.std.specs.Io.KnownBytes.{Appends, Keeps}
 use Rattle.edge.specs.Seen.{SeenSink}
 use Rattle.session.specs.declared.top.WriteFault.{WriteFault}
@@ -19,13 +20,21 @@ pub went_on : (old mid new : Option (List ℕ)) (text done rest : List ℕ) (n :
 went_on old mid new text done rest n parts first second =
     (done ++ take n rest, parts ∙ ap (λ l. done ++ l) (sym (take-append-drop n rest)) ∙ sym (append_assoc done (take n rest) (drop n rest)), appends_both old mid new done (take n rest) first second)
 
--- nothing more went out
-pub stopped : (old mid new : Option (List ℕ)) (text done rest : List ℕ) → text ≡ done ++ rest → Appends old mid done → Keeps mid new → (n : ℕ) × Appends old new (take n text)
-stopped None mid new text done rest parts first kept = (0, tt)
-stopped (Some a) None new text done rest parts first kept = absurd first
-stopped (Some a) (Some b) None text done rest parts first kept = absurd kept
-stopped (Some a) (Some b) (Some c) text done rest parts first kept =
-    (length done, kept ∙ first ∙ ap (λ l. a ++ l) (sym (ap (take (length done)) parts ∙ take-append_seam done rest)))
+-- what is not empty
+pub some_left : (xs : List ℕ) (empty : Bool) → empty ≡ (length xs == 0) → empty ≡ false → 0 < length xs
+some_left [] empty is some = cc
+some_left (x ∷ xs) empty is some = omega arith
+
+-- nothing more went out, and some was left
+pub stopped : (old mid new : Option (List ℕ)) (text done rest : List ℕ) → text ≡ done ++ rest → 0 < length rest → Appends old mid done → Keeps mid new → (n : ℕ) × (n < length text) × Appends old new (take n text)
+stopped old mid new text done rest parts some first kept =
+    (length done, omega (arith, ap length parts, length-append done rest), went old mid new first kept)
+  where
+    went : (old mid new : Option (List ℕ)) → Appends old mid done → Keeps mid new → Appends old new (take (length done) text)
+    went None mid new first kept = tt
+    went (Some a) None new first kept = absurd first
+    went (Some a) (Some b) None first kept = absurd kept
+    went (Some a) (Some b) (Some c) first kept = kept ∙ first ∙ ap (λ l. a ++ l) (sym (ap (take (length done)) parts ∙ take-append_seam done rest))
 
 -- the writing stops at the first write that fails
 pub cut_off : (text : List ℕ) (old new : SeenSink) (result : Result Unit WriteFault) → IsErr result → CutOff text old new → Wrote text old new result

@@ -18,13 +18,7 @@ use Rattle.session.specs.Modules.{DifferAt, NotLoaded, NotResolved, Spells}
 use Rattle.session.specs.Checks.{MayCheck, MayLeave}
 use Rattle.session.specs.Writes.{WrittenWhole, CutOff}
 
--- the text that a command prints
-abbrev pub text : Option Command → Outcome → List ℕ
-text (Some (Check name)) result = plain_text result
-text (Some (Replay path of)) result = plain_text result
-text None result = plain_text result
-
--- A text was printed whole, with its status, or a write failed and a prefix of it went out.
+-- A text was printed whole, with its status, or a write failed and not all of it went out.
 abbrev pub Printed : List ℕ → Status → SeenSink → SeenSink → Status → Type 0
 Printed text whole old new result =
     ((result ≡ whole) × WrittenWhole text old new) ⊎ ((result ≡ status.Fault) × CutOff text old new)
@@ -61,18 +55,13 @@ abbrev pub MayReplay : Option Held → List ℕ → Option (List ℕ) → Outcom
 MayReplay held path None result = IsReplayed held path None result
 MayReplay held path (Some name) result = MayReplayOf held path name result
 
--- words that are no command have one answer
-abbrev pub MayAnswerNone : Outcome → Type 0
-MayAnswerNone outcome.Usage = Unit {0}
-MayAnswerNone result = ⊥
-
--- when a command may end so
+-- when a command may end so; words that are no command have one answer
 abbrev pub MayAnswer : Option Command → SeenFiles → SeenFiles → Outcome → Type 0
 MayAnswer (Some (Check name)) old new result =
     MayCheck name old new result × IsCounted old new result
 MayAnswer (Some (Replay path of)) old new result =
     MayReplay old.held path of result × IsCounted old new result
-MayAnswer None old new result = MayAnswerNone result
+MayAnswer None old new result = result ≡ outcome.Usage
 
 -- files, an input and an output
 pub record World (F I O : Type 0) : Type 0 where
@@ -91,25 +80,15 @@ Seen = World SeenFiles SeenSource SeenSink
 pub record Answered (command : Option Command) (old new : Seen) (result : Status) : Type 0 where
   pub outcome : Outcome
   pub may : MayAnswer command old.files new.files outcome
-  pub printed : Printed (text command outcome) (status_of outcome) old.out new.out result
+  pub printed : Printed (plain_text outcome) (status_of outcome) old.out new.out result
 
--- what a command may do to the files: words that are no command leave them alone
-abbrev pub MayStore : {F : Type 0} → (F → SeenFiles) → Option Command → F → F → Type 0
-MayStore see (Some (Check name)) old new = MayLeave name (see old) (see new)
-MayStore see (Some (Replay path of)) old new = StoresNothing (see old) (see new)
-MayStore see None old new = new ≡ old
-
--- what a command may read of the input
-abbrev pub MayRead : {I : Type 0} → (I → SeenSource) → Option Command → I → I → Type 0
-MayRead see (Some (Check name)) old new = new ≡ old
-MayRead see (Some (Replay path of)) old new = new ≡ old
-MayRead see None old new = new ≡ old
-
--- what a command may have printed before it was out of memory
-abbrev pub MayPrintBefore : {O : Type 0} → (O → SeenSink) → Option Command → O → O → Type 0
-MayPrintBefore see (Some (Check name)) old new = new ≡ old
-MayPrintBefore see (Some (Replay path of)) old new = new ≡ old
-MayPrintBefore see None old new = new ≡ old
+-- What a command may do to the files, where what it answers does not say it: a check that was out
+-- of memory; words that are no command leave them alone.
+abbrev pub MayStore : {F : Type 0} → (F → SeenFiles) → Option Command → Type 0 → F → F → Type 0
+MayStore see (Some (Check name)) OutOfMemory old new =
+    OutOfMemory → MayLeave name (see old) (see new)
+MayStore see (Some (Replay path of)) OutOfMemory old new = StoresNothing (see old) (see new)
+MayStore see None OutOfMemory old new = new ≡ old
 
 -- A command ran: how files, inputs and outputs are seen, the command, both worlds, and the status.
 module _ {F I O : Type 0} (files : F → SeenFiles)
@@ -119,9 +98,9 @@ module _ {F I O : Type 0} (files : F → SeenFiles)
 
   pub record Ran (command : Option Command) (old new : World F I O) (result : Status) : Type 0 where
     pub answer : result ≢ status.Memory → Answered command (seen old) (seen new) result
-    pub memory : result ≡ status.Memory → MayPrintBefore out command old.out new.out
-    pub stored : MayStore files command old.files new.files
-    pub read : MayRead input command old.input new.input
+    pub memory : result ≡ status.Memory → new.out ≡ old.out
+    pub stored : MayStore files command (result ≡ status.Memory) old.files new.files
+    pub read : new.input ≡ old.input
 
 -- A law: of one file there is one verdict, yes with these numbers or no at that row.
 abbrev pub OneVerdict : Type 0

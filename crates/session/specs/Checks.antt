@@ -1,6 +1,6 @@
 -- What checking a module answers, and what it leaves at the path of its derivation.
-use Rattle.std.specs.Prelude.{◌≡◌, ℕ, List, [], ◌∷◌, ◌++◌, length, map, slice_get, codes}
-use Rattle.std.specs.Prelude.{Option, Some, None, Result, IfOk, String, string_bytes}
+use Rattle.std.specs.Prelude.{◌≡◌, ◌≢◌, ℕ, List, [], ◌∷◌, ◌++◌, length, map, slice_get, codes}
+use Rattle.std.specs.Prelude.{Option, Some, None, Result, IfOk, OnErr, String, string_bytes}
 use Rattle.std.specs.List.{flat_map}
 use Rattle.std.specs.declared.alloc.Global.{Global}
 use Rattle.std.specs.declared.alloc.AllocError.{AllocError}
@@ -94,12 +94,13 @@ pub data MayCheck (name : List ℕ) (old new : SeenFiles) (told : Outcome) : Typ
       → (answer : Stored) → IsStored name bytes old new answer
       → told_stored count answer ≡ Some told → MayCheck name old new told
 
--- What a check may leave, also where it is out of memory: what was there, or what a store of the
--- whole derivation leaves.
+-- What a check may leave where it is out of memory: what was there, or what a store of the whole
+-- derivation leaves that did not fail.
 pub data MayLeave (name : List ℕ) (old new : SeenFiles) : Type 0 where
   nothing : StoresNothing old new → MayLeave name old new
   derivation : (bytes : List ℕ) (count : ℕ) → IsDerived old.held name bytes count
-      → (answer : Stored) → IsStored name bytes old new answer → MayLeave name old new
+      → (answer : Stored) → answer ≢ stored.Failed → IsStored name bytes old new answer
+      → MayLeave name old new
 
 -- steps of a check
 
@@ -118,5 +119,6 @@ IsChecked defs (found.NotDirect k) = other_place defs [] ≡ Some k
 pub record Stores (name bytes : List ℕ) (count : ℕ) (old new : SeenFiles)
     (result : Result Outcome AllocError) : Type 0 where
   pub answer : Stored
+  pub spent : OnErr result (answer ≡ stored.Memory)
   pub stored : IsStored name bytes old new answer
   pub told : IfOk result (λ o. told_stored count answer ≡ Some o)

@@ -1,5 +1,5 @@
 -- What the writing of a text leaves.
-use Rattle.std.specs.Prelude.{◌≡◌, ◌<◌, ℕ, List, take, drop, Result, Ok, Err}
+use Rattle.std.specs.Prelude.{◌≡◌, ◌<◌, ℕ, List, length, take, drop, Result, Ok, Err}
 use Rattle.std.specs.Io.KnownBytes.{Appends, Keeps}
 use Rattle.edge.specs.Counts.{one_more}
 use Rattle.edge.specs.Seen.{SeenSink}
@@ -10,10 +10,11 @@ use denote.Ref.{Bor}
 abbrev pub WrittenWhole : List ℕ → SeenSink → SeenSink → Type 0
 WrittenWhole text old new = Appends old.taken new.taken text × (new.faults ≡ old.faults)
 
--- a prefix of the text went out, and one write failed
+-- a part of the text went out, from its beginning, and one write failed
 abbrev pub CutOff : List ℕ → SeenSink → SeenSink → Type 0
 CutOff text old new =
-    (new.faults ≡ one_more old.faults) × (n : ℕ) × Appends old.taken new.taken (take n text)
+    (new.faults ≡ one_more old.faults)
+    × (n : ℕ) × (n < length text) × Appends old.taken new.taken (take n text)
 
 -- what the writing of a text does
 abbrev pub Wrote : List ℕ → SeenSink → SeenSink → Result Unit WriteFault → Type 0

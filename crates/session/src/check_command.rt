@@ -1,6 +1,6 @@
 //! The command `check`: it checks a module as it stands, and stores its derivation.
 
-ghost use Rattle.std.specs.Prelude.{◌≡◌, ◌<◌, ℕ, List, IfOk, IsSome, Some, length, slice_get};
+ghost use Rattle.std.specs.Prelude.{◌≡◌, ◌<◌, ℕ, List, IfOk, IsErr, IsSome, Some, length, slice_get};
 ghost use Rattle.layout_lexer.specs.declared.token.Span.{Span};
 ghost use Rattle.trees.specs.Judgements.{Judgement};
 ghost use Rattle.resolver.specs.Resolved.{defs_in};
@@ -133,7 +133,7 @@ pub(crate) fn check<F: Files>(
         IfOk result (λ told. MayCheck name.now (see files.old) (see files.new) told
         × IsCounted (see files.old) (see files.new) told) }
     ensures left { let see = seen_files F.held F.counts in
-        MayLeave name.now (see files.old) (see files.new) }
+        IsErr result → MayLeave name.now (see files.old) (see files.new) }
 {
     let program = match read_program(alloc, name, files)? {
         Ok(program) => program,

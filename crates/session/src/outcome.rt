@@ -1,12 +1,14 @@
 //! How commands end, the texts of that and the statuses.
 
-ghost use Rattle.std.specs.Prelude.{◌≡◌, IfOk, string_bytes};
+ghost use Rattle.std.specs.Prelude.{◌≡◌, IfOk, IsOk};
+ghost use Rattle.std.specs.Cow.{cow_str_bytes};
 ghost use Rattle.session.specs.Answers.{OneVerdict, OneAnswer};
 ghost use Rattle.session.specs.Outcomes.{plain_text, status_of};
 
 use crate::refusal::Refusal;
 use replay::Verdict;
 use std::alloc::{AllocError, Global};
+use std::borrow::CowStr;
 
 /// The status that the program ends with.
 #[derive(Clone, Copy, Debug, PartialEq, Eq)]
@@ -67,23 +69,26 @@ impl Outcome {
         }
     }
 
-    /// The text in plain words, with its newline. The only error is out of memory.
-    pub(crate) fn text(&self, alloc: Global) -> Result<String, AllocError>
-        ensures { IfOk result (λ shown. string_bytes shown ≡ plain_text self.now) }
+    /// The text in plain words, with its newline. The only error is out of memory. A text that is
+    /// always the same takes none, so that a fault of writing is told for certain.
+    pub(crate) fn text(&self, alloc: Global) -> Result<CowStr<'static, Global>, AllocError>
+        ensures text { IfOk result (λ shown. cow_str_bytes shown ≡ plain_text self.now) }
+        ensures fault { self.now ≡ Outcome.WriteFault → IsOk result }
     {
-        match self {
+        let made = match self {
+            Outcome::ReadFault => return Ok(CowStr::Borrowed("fault: ReadFault\n")),
+            Outcome::WriteFault => return Ok(CowStr::Borrowed("fault: WriteFault\n")),
+            Outcome::Usage => return Ok(CowStr::Borrowed(USAGE)),
             Outcome::Judged(Verdict::Yes { rows, roots }) => {
-                format!(in alloc; "yes: {rows} rows, {roots} roots\n")
+                format!(in alloc; "yes: {rows} rows, {roots} roots\n")?
             }
-            Outcome::Judged(Verdict::No { row }) => format!(in alloc; "no: row {row}\n"),
-            Outcome::RootDiffers(root) => format!(in alloc; "no: root {root}\n"),
-            Outcome::Refused(refusal) => refusal.text(alloc),
-            Outcome::MissingFile(path) => format!(in alloc; "no: MissingFile in {path}\n"),
-            Outcome::ReadFault => String::from_str(alloc, "fault: ReadFault\n"),
-            Outcome::Checked(count) => format!(in alloc; "yes: {count} definitions\n"),
-            Outcome::WriteFault => String::from_str(alloc, "fault: WriteFault\n"),
-            Outcome::Usage => String::from_str(alloc, USAGE),
-        }
+            Outcome::Judged(Verdict::No { row }) => format!(in alloc; "no: row {row}\n")?,
+            Outcome::RootDiffers(root) => format!(in alloc; "no: root {root}\n")?,
+            Outcome::Refused(refusal) => refusal.text(alloc)?,
+            Outcome::MissingFile(path) => format!(in alloc; "no: MissingFile in {path}\n")?,
+            Outcome::Checked(count) => format!(in alloc; "yes: {count} definitions\n")?,
+        };
+        Ok(CowStr::Owned(made))
     }
 }
 

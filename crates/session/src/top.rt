@@ -1,6 +1,6 @@
 //! The top call: it does what the words ask for, and prints how that ended.
 
-ghost use Rattle.std.specs.Prelude.{◌≡◌, ◌≢◌, [], IfOk};
+ghost use Rattle.std.specs.Prelude.{◌≡◌, ◌≢◌, [], IfOk, IsErr};
 ghost use Rattle.edge.specs.Seen.{seen_files, seen_source, seen_sink};
 ghost use Rattle.session.specs.Answers.{MayAnswer, MayStore, Printed, Ran, world};
 ghost use Rattle.session.specs.Outcomes.{plain_text, status_of};
@@ -48,6 +48,7 @@ fn print<O: Sink>(alloc: Global, outcome: &Outcome, out: &mut O) -> Status
         result ≢ Status.Memory → Printed (plain_text outcome.now) (status_of outcome.now)
         (see out.old) (see out.new) result }
     ensures memory { result ≡ Status.Memory → out.new ≡ out.old }
+    ensures spared { result ≡ Status.Memory → outcome.now ≢ Outcome.WriteFault }
 {
     match outcome.text(alloc) {
         Ok(text) => match write_text(out, text.as_bytes()) {
@@ -67,7 +68,7 @@ fn outcome_of<F: Files>(
     ensures answer { let see = seen_files F.held F.counts in
         IfOk result (MayAnswer (command (texts words.now)) (see files.old) (see files.new)) }
     ensures stored { MayStore (seen_files F.held F.counts) (command (texts words.now))
-        files.old files.new }
+        (IsErr result) files.old files.new }
 {
     match command_of(alloc, words)? {
         Some(Command::Check(name)) => Ok(check(alloc, name, files)?),

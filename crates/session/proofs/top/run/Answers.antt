@@ -1,6 +1,8 @@
-use Rattle.edge.specs.Seen.{seen_source, seen_sink}
+use Rattle.std.proofs.Common.{◌≡◌, refl}
+use Rattle.edge.specs.Seen.{seen_files}
 use Rattle.session.specs.Words.{command, texts}
-use Rattle.session.proofs.RunLemmas.{text_is_plain, reads_nothing, prints_nothing}
+use Rattle.session.specs.declared.outcome.Status.TheVariants as status
+use Rattle.session.proofs.RunLemmas.{stores, stores_less}
 use Rattle.session.proofs.top.run.Goals as goal
 
 pub returns-in-Ok : goal.returns-in-Ok
@@ -10,9 +12,19 @@ returns-in-Ok g c =
       answer = λ in_memory. record {
         outcome = c.in-Ok.outcome;
         may = c.in-Ok.ensures.answer;
-        printed = rw (text_is_plain asked c.in-Ok.outcome) (c.print.ensures.printed in_memory);
+        printed = c.print.ensures.printed in_memory;
       };
-      memory = λ out_of_memory. prints_nothing (seen_sink g.O.Sink.taken g.O.Sink.faults) asked c.args.out.now c.print.new.out (c.print.ensures.memory out_of_memory);
-      stored = c.outcome_of.ensures.stored;
-      read = reads_nothing (seen_source g.I.Source.left g.I.Source.faults) asked c.args.input.now;
+      memory = c.print.ensures.memory;
+      stored = stores (seen_files g.F.Files.held g.F.Files.counts) asked _ (c.print.result ≡ status.Memory) c.args.files.now c.outcome_of.new.files c.in-Ok.outcome c.in-Ok.ensures.answer c.print.ensures.spared c.outcome_of.ensures.stored;
+      read = refl;
+    }
+
+pub returns-in-Err : goal.returns-in-Err
+returns-in-Err g c =
+    let asked = command (texts c.args.words.now) in
+    record {
+      answer = λ in_memory. absurd (in_memory refl);
+      memory = λ spent. refl;
+      stored = stores_less (seen_files g.F.Files.held g.F.Files.counts) asked _ (status.Memory ≡ status.Memory) c.args.files.now c.outcome_of.new.files (λ spent. cc) c.outcome_of.ensures.stored;
+      read = refl;
     }

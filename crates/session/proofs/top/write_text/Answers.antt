@@ -1,7 +1,7 @@
-use Rattle.std.proofs.Common.{◌++◌, ◌∙◌, ap, sym}
+use Rattle.std.proofs.Common.{◌<◌, ◌++◌, length, ◌∙◌, ap, sym}
 use Rattle.edge.specs.Counts.{one_more}
 use Rattle.edge.specs.Seen.{seen_sink}
-use Rattle.session.proofs.WriteLemmas.{went_on, stopped, cut_off}
+use Rattle.session.proofs.WriteLemmas.{went_on, stopped, some_left, cut_off}
 use Rattle.session.proofs.top.write_text.Goals as goal
 
 pub loop-rest-preserved : goal.loop-rest-preserved
@@ -18,6 +18,7 @@ returns-in_err-rest g c =
     let w = c.in_err-rest.ensures in
     let taken = g.O.Sink.taken in
     let see = seen_sink g.O.Sink.taken g.O.Sink.faults in
-    let s = stopped (taken c.args.out.now) (taken c.loop-rest.out) (taken c.write_some.new.out) c.args.text.now i.0 c.loop-rest.rest.now i.1 i.2 w.1 in
+    let some : 0 < length c.loop-rest.rest.now = some_left c.loop-rest.rest.now c.is_empty.result c.is_empty.ensures c.loop-rest-test.true in
+    let s = stopped (taken c.args.out.now) (taken c.loop-rest.out) (taken c.write_some.new.out) c.args.text.now i.0 c.loop-rest.rest.now i.1 some i.2 w.1 in
     cut_off c.args.text.now (see c.args.out.now) (see c.write_some.new.out) c.from_residual.result c.from_residual.ensures.0
-    (w.0 ∙ ap one_more i.3, s.0, s.1)
+    (w.0 ∙ ap one_more i.3, s.0, s.1, s.2)
