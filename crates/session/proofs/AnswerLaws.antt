@@ -29,7 +29,7 @@ use Rattle.session.proofs.ExclusionLemmas.{SameAnswer, same_missing, replayed_on
 
 -- how faults are told
 
-same_refusal : (why : Cause) (at : Option ℕ) (p q : String Global) → string_bytes p ≡ string_bytes q → SameAnswer (refusal why at p) (refusal why at q)
+pub same_refusal : (why : Cause) (at : Option ℕ) (p q : String Global) → string_bytes p ≡ string_bytes q → SameAnswer (refusal why at p) (refusal why at q)
 same_refusal why at p q e =
     (ap (λ x. codes "no: " ++ (cause_name why ++ (place_text at ++ (codes " in " ++ (x ++ codes "\n"))))) e, refl)
 
@@ -110,7 +110,7 @@ decided (load.Cycle p) told e n = tt
 decided (load.TooMany p) told e n = tt
 decided load.Memory told e n = cc
 
-of_text : (f : ScopeFault) (path : String Global) (told : Outcome) → told_scope f path ≡ Some told → IsOfText f
+pub of_text : (f : ScopeFault) (path : String Global) (told : Outcome) → told_scope f path ≡ Some told → IsOfText f
 of_text (scope.Unbound p) path told e = tt
 of_text (scope.Twice p) path told e = tt
 of_text (scope.NameKind p) path told e = tt
@@ -119,19 +119,19 @@ of_text scope.Memory path told e = cc
 
 -- one of the three ways, in one way
 module _ (held : Held) (name : List ℕ) (one other : Outcome) (n : one ≢ outcome.ReadFault) (n' : other ≢ outcome.ReadFault) where
-  loaded_one : (xs ys : List ModuleText) → AreLoaded (Some held) name xs → AreLoaded (Some held) name ys → SameTexts xs ys
+  pub loaded_one : (xs ys : List ModuleText) → AreLoaded (Some held) name xs → AreLoaded (Some held) name ys → SameTexts xs ys
   loaded_one xs ys a b = loads_one held [] [] [] (name ∷ []) xs ys tt a b
 
-  loaded_or_not : (xs : List ModuleText) (told : Outcome) → told ≢ outcome.ReadFault → AreLoaded (Some held) name xs → NotLoaded (Some held) name told → ⊥
+  pub loaded_or_not : (xs : List ModuleText) (told : Outcome) → told ≢ outcome.ReadFault → AreLoaded (Some held) name xs → NotLoaded (Some held) name told → ⊥
   loaded_or_not xs told m a b = not_both held [] [] [] (name ∷ []) xs b.fault tt a b.refuses (decided b.fault told b.is_told m)
 
-  both_not_loaded : NotLoaded (Some held) name one → NotLoaded (Some held) name other → SameAnswer one other
+  pub both_not_loaded : NotLoaded (Some held) name one → NotLoaded (Some held) name other → SameAnswer one other
   both_not_loaded a b =
       let f = decided a.fault one a.is_told n in
       let g = decided b.fault other b.is_told n' in
       load_told a.fault b.fault one other (refuses_one held [] [] [] (name ∷ []) a.fault b.fault tt a.refuses b.refuses f g) n a.is_told b.is_told
 
-  both_not_resolved : NotResolved (Some held) name one → NotResolved (Some held) name other → SameAnswer one other
+  pub both_not_resolved : NotResolved (Some held) name one → NotResolved (Some held) name other → SameAnswer one other
   both_not_resolved a b =
       let s = loaded_one a.texts b.texts a.loaded b.loaded in
       let r = refused_once a.texts b.texts a.at b.at a.fault b.fault s a.refuses b.refuses (of_text a.fault a.path one a.is_told) (of_text b.fault b.path other b.is_told) in

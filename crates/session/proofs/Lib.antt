@@ -11,3 +11,4 @@ pub mod ReplayLaws
 pub mod RunLemmas
 pub mod PlaceLaws
 pub mod CheckLaws
+pub mod OneCheckLaws

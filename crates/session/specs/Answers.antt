@@ -116,3 +116,18 @@ OneAnswer =
     → one ≢ outcome.ReadFault → other ≢ outcome.ReadFault
     → MayReplay (Some held) path of one → MayReplay (Some held) path of other
     → (plain_text one ≡ plain_text other) × (status_of one ≡ status_of other)
+
+-- an outcome that is no fault of reading or writing
+abbrev pub IsOfText : Outcome → Type 0
+IsOfText outcome.ReadFault = ⊥
+IsOfText outcome.WriteFault = ⊥
+IsOfText result = Unit {0}
+
+-- A law: where it is told what is held, a check has one text and one status, but for faults of
+-- reading and of writing.
+abbrev pub OneCheck : Type 0
+OneCheck =
+    (name : List ℕ) (held : Held) (one other : Outcome) (old new before after : SeenFiles)
+    → old.held ≡ Some held → before.held ≡ Some held → IsOfText one → IsOfText other
+    → MayCheck name old new one → MayCheck name before after other
+    → (plain_text one ≡ plain_text other) × (status_of one ≡ status_of other)

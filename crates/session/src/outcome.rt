@@ -2,7 +2,7 @@
 
 ghost use Rattle.std.specs.Prelude.{◌≡◌, IfOk, IsOk};
 ghost use Rattle.std.specs.Cow.{cow_str_bytes};
-ghost use Rattle.session.specs.Answers.{OneVerdict, OneAnswer};
+ghost use Rattle.session.specs.Answers.{OneVerdict, OneAnswer, OneCheck};
 ghost use Rattle.session.specs.Outcomes.{plain_text, status_of};
 
 use crate::refusal::Refusal;
@@ -94,8 +94,9 @@ impl Outcome {
 
 /// A law on the answers, and no code: of one file there is one verdict, and where it is told what
 /// is held, a replay of a path, and of a module if one is named, has one answer, but for a fault of
-/// reading and out of memory.
+/// reading and out of memory; so has a check, but for faults of reading and of writing.
 pub fn answers_exclude_each_other()
     ensures verdict { OneVerdict }
     ensures answer { OneAnswer }
+    ensures check { OneCheck }
 {}

@@ -16,7 +16,7 @@ returns-in-Ok g c =
       };
       memory = c.print.ensures.memory;
       stored = stores (seen_files g.F.Files.held g.F.Files.counts) asked _ (c.print.result ≡ status.Memory) c.args.files.now c.outcome_of.new.files c.in-Ok.outcome c.in-Ok.ensures.answer c.print.ensures.spared c.outcome_of.ensures.stored;
-      read = refl;
+      read = refl {a = c.args.input.now};
     }
 
 pub returns-in-Err : goal.returns-in-Err
