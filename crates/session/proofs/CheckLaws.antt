@@ -3,7 +3,7 @@ use Rattle.std.proofs.Common.{◌≡◌, ◌≢◌, IsErr, ◌<◌, ◌+◌, ℕ
 use Rattle.std.proofs.lemmas.List.{flat_map_more, take_more}
 use Rattle.std.specs.declared.alloc.AllocError.{AllocError}
 use Rattle.std.specs.List.{AllZip}
-use Rattle.edge.specs.Counts.{FileCounts, Rose, counted_store}
+use Rattle.edge.specs.Counts.{FileCounts, counted_store}
 use Rattle.edge.specs.Files.{Held}
 use Rattle.edge.specs.Seen.{SeenFiles}
 use Rattle.edge.specs.declared.files.Stored.{Stored}
@@ -31,7 +31,7 @@ use Rattle.session.specs.declared.check_command.Found.TheVariants as found
 use Rattle.session.specs.Loaded.{IsRead, stated_by}
 use Rattle.session.specs.Checks.{IsChecked, IsDerived, IsRefusedAt, IsStored, MayCheck, MayLeave, Stores, derivation, derived, nodes_of, not_direct, told_stored}
 use Rattle.book_writer.specs.Written.{IsWritten}
-use Rattle.session.proofs.LoadedLaws.{rose, told_is}
+use Rattle.session.proofs.LoadedLaws.{told_is}
 use Rattle.session.proofs.PlaceLaws.{count_of_places}
 
 -- the nodes of what definitions state conclude their judgements
@@ -68,13 +68,12 @@ same_files one other held counts =
 
 -- how a store is told
 pub stored_counted : (old new : SeenFiles) (answer : Stored) (count : ℕ) (told : Outcome) → new.counts ≡ counted_store answer old.counts → told_stored count answer ≡ Some told → IsCounted old new told
-stored_counted old new stored.Done count told c e = told_is old new (outcome.Checked count) told e tt
-stored_counted old new stored.Failed count told c e =
-    told_is old new outcome.WriteFault told e (subst (λ n. Rose old.counts.store_faults n.store_faults) (sym c) (rose old.counts.store_faults))
+stored_counted old new stored.Done count told c e = told_is old new (outcome.Checked count) told e c
+stored_counted old new stored.Failed count told c e = told_is old new outcome.WriteFault told e c
 stored_counted old new stored.Memory count told c e = absurd (cc e)
 
-pub refused_counted : (old new : SeenFiles) (told : Outcome) {texts : _} {k : ℕ} → IsRefusedAt texts k told → IsCounted old new told
-refused_counted old new told {texts} {k} r = subst (IsCounted old new) (sym r.is_told) tt
+pub refused_counted : (old new : SeenFiles) (told : Outcome) {texts : _} {k : ℕ} → new.counts ≡ old.counts → IsRefusedAt texts k told → IsCounted old new told
+refused_counted old new told {texts} {k} c r = subst (IsCounted old new) (sym r.is_told) c
 
 -- what was found is a derivation of what the module and its imports spell
 pub is_derived : (held : Option Held) (name : List ℕ) (program : Program) (defs : List CodeDef) (bytes : Vec ℕ Global) (count : ℕ) → IsRead held name program → defs ≡ defs_in program.codes → IsChecked defs (found.Derived bytes) → count ≡ length defs
@@ -106,8 +105,8 @@ leave_derived name bytes count old mid new (Err e) same is stores err =
     not_failed answer e = λ f. cc
 
 -- a definition is refused
-pub check_refused : (name : List ℕ) (old new : SeenFiles) (program : Program) (k : ℕ) (r : Result Outcome AllocError) → IsRead old.held name program → other_place (defs_in program.codes) [] ≡ Some k → StoresNothing old new
+pub check_refused : (name : List ℕ) (old new : SeenFiles) (program : Program) (k : ℕ) (r : Result Outcome AllocError) → IsRead old.held name program → other_place (defs_in program.codes) [] ≡ Some k → StoresNothing old new → new.counts ≡ old.counts
     → IfOk r (IsRefusedAt program.texts.items k) → IfOk r (λ told. MayCheck name old new told × IsCounted old new told)
-check_refused name old new program k (Ok told) read first nothing refused =
-    (not_direct (record { program = program; is_read = read; at = k; first = first; refused = refused }) nothing, refused_counted old new told refused)
-check_refused name old new program k (Err e) read first nothing refused = tt
+check_refused name old new program k (Ok told) read first nothing counts refused =
+    (not_direct (record { program = program; is_read = read; at = k; first = first; refused = refused }) nothing, refused_counted old new told counts refused)
+check_refused name old new program k (Err e) read first nothing counts refused = tt

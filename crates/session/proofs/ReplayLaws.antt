@@ -53,20 +53,20 @@ replay_found held path (Some Js) bytes (outcome.MissingFile p) h f = absurd f
 replay_found held path None bytes outcome.ReadFault h f = absurd f
 replay_found held path (Some Js) bytes outcome.ReadFault h f = absurd f
 
-found_counted : (old new : SeenFiles) (wanted : Option (List Judgement)) (bytes : List ℕ) (told : Outcome) → IsFound bytes wanted told → IsCounted old new told
-found_counted old new wanted bytes (outcome.Judged v) f = tt
-found_counted old new wanted bytes (outcome.RootDiffers k) f = tt
-found_counted old new wanted bytes (outcome.Refused r) f = tt
-found_counted old new wanted bytes outcome.Usage f = tt
-found_counted old new wanted bytes (outcome.Checked n) f = tt
-found_counted old new None bytes outcome.WriteFault f = absurd f
-found_counted old new (Some Js) bytes outcome.WriteFault f = absurd f
-found_counted old new None bytes (outcome.MissingFile p) f = absurd f
-found_counted old new (Some Js) bytes (outcome.MissingFile p) f = absurd f
-found_counted old new None bytes outcome.ReadFault f = absurd f
-found_counted old new (Some Js) bytes outcome.ReadFault f = absurd f
+found_counted : (old new : SeenFiles) (wanted : Option (List Judgement)) (bytes : List ℕ) (told : Outcome) → new.counts ≡ old.counts → IsFound bytes wanted told → IsCounted old new told
+found_counted old new wanted bytes (outcome.Judged v) c f = c
+found_counted old new wanted bytes (outcome.RootDiffers k) c f = c
+found_counted old new wanted bytes (outcome.Refused r) c f = c
+found_counted old new wanted bytes outcome.Usage c f = c
+found_counted old new wanted bytes (outcome.Checked n) c f = c
+found_counted old new None bytes outcome.WriteFault c f = absurd f
+found_counted old new (Some Js) bytes outcome.WriteFault c f = absurd f
+found_counted old new None bytes (outcome.MissingFile p) c f = absurd f
+found_counted old new (Some Js) bytes (outcome.MissingFile p) c f = absurd f
+found_counted old new None bytes outcome.ReadFault c f = absurd f
+found_counted old new (Some Js) bytes outcome.ReadFault c f = absurd f
 
-pub all_found : {E : Type 0} (held : Option Held) (path : List ℕ) (of : Option (List ℕ)) (wanted : Option (List Judgement)) (bytes : List ℕ) (old new : SeenFiles) (r : Result Outcome E) → Wants held of wanted → HoldsAt held path (Some bytes) → IfOk r (IsFound bytes wanted) → IfOk r (λ o. MayReplay held path of o × IsCounted old new o)
-all_found held path of wanted bytes old new (Ok told) w h f =
-    (may_replay held path of wanted told w (replay_found held path wanted bytes told h f), found_counted old new wanted bytes told f)
-all_found held path of wanted bytes old new (Err e) w h f = tt
+pub all_found : {E : Type 0} (held : Option Held) (path : List ℕ) (of : Option (List ℕ)) (wanted : Option (List Judgement)) (bytes : List ℕ) (old new : SeenFiles) (r : Result Outcome E) → Wants held of wanted → HoldsAt held path (Some bytes) → new.counts ≡ old.counts → IfOk r (IsFound bytes wanted) → IfOk r (λ o. MayReplay held path of o × IsCounted old new o)
+all_found held path of wanted bytes old new (Ok told) w h c f =
+    (may_replay held path of wanted told w (replay_found held path wanted bytes told h f), found_counted old new wanted bytes told c f)
+all_found held path of wanted bytes old new (Err e) w h c f = tt

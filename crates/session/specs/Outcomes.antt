@@ -1,6 +1,8 @@
 -- What outcomes are in print, and what is counted and stored.
 use Rattle.std.specs.Prelude.{◌≡◌, ℕ, List, ◌++◌, codes, decimal, string_bytes}
-use Rattle.edge.specs.Counts.{Rose}
+use Rattle.edge.specs.Counts.{FileCounts, counted_fetch, counted_store}
+use Rattle.edge.specs.declared.files.Fetched.TheVariants as fetched
+use Rattle.edge.specs.declared.files.Stored.TheVariants as stored
 use Rattle.edge.specs.Seen.{SeenFiles}
 use Rattle.replay.specs.declared.judging.Verdict.TheVariants.{Yes, No}
 use Rattle.session.specs.declared.outcome.Status.{Status}
@@ -36,12 +38,15 @@ status_of (outcome.Checked count) = status.Yes
 status_of outcome.WriteFault = status.Fault
 status_of outcome.Usage = status.Usage
 
--- A file was missing, could not be read, or not be stored, only where the count of that rose.
+-- the counts of files after a command that ended so: what goes wrong once is told, and ends it
+abbrev pub counts_after : Outcome → FileCounts → FileCounts
+counts_after (outcome.MissingFile path) counts = counted_fetch fetched.Missing counts
+counts_after outcome.ReadFault counts = counted_fetch fetched.Failed counts
+counts_after outcome.WriteFault counts = counted_store stored.Failed counts
+counts_after result counts = counts
+
 abbrev pub IsCounted : SeenFiles → SeenFiles → Outcome → Type 0
-IsCounted old new (outcome.MissingFile path) = Rose old.counts.misses new.counts.misses
-IsCounted old new outcome.ReadFault = Rose old.counts.fetch_faults new.counts.fetch_faults
-IsCounted old new outcome.WriteFault = Rose old.counts.store_faults new.counts.store_faults
-IsCounted old new result = Unit {0}
+IsCounted old new told = new.counts ≡ counts_after told old.counts
 
 -- each path holds what it did, and no store was tried that failed
 abbrev pub StoresNothing : SeenFiles → SeenFiles → Type 0

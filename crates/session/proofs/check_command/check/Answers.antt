@@ -1,5 +1,5 @@
-use Rattle.std.proofs.Common.{◌≡◌, ◌<◌, [], subst, length, refl, Some}
-use Rattle.edge.specs.Seen.{seen_files}
+use Rattle.std.proofs.Common.{◌≡◌, ◌<◌, [], ap, subst, length, refl, Some}
+use Rattle.edge.specs.Seen.{SeenFiles, seen_files}
 use Rattle.direct.specs.Direct.{other_place}
 use Rattle.session.specs.Loaded.{IsProgram, IsRead}
 use Rattle.session.specs.Checks.{IsChecked, IsDerived, Stores}
@@ -53,4 +53,4 @@ returns-clause-answer g c =
     let defs = c.as_slice-defs.result.now in
     let first = subst (IsChecked defs) c.in-NotDirect.is c.in_ok-bytes.ensures in
     check_refused c.args.name.now (see c.args.files.now) (see c.read_program.new.files) c.in-Ok.program c.in-NotDirect.place c.not_direct.result r.0
-    (subst (λ ds. other_place ds [] ≡ Some c.in-NotDirect.place) c.as_slice-defs.ensures first) c.in_ok-program.ensures.stored c.not_direct.ensures
+    (subst (λ ds. other_place ds [] ≡ Some c.in-NotDirect.place) c.as_slice-defs.ensures first) c.in_ok-program.ensures.stored (ap (λ (s : SeenFiles). s.counts) r.1) c.not_direct.ensures

@@ -1,6 +1,7 @@
 use Rattle.std.proofs.Common.{◌≡◌, ◌<◌, ◌∙◌, ap, subst, length, slice_get, Some, inl, inr}
 use Rattle.edge.specs.Seen.{seen_files}
 use Rattle.module_texts.specs.Texts.{path_of}
+use Rattle.loading.specs.Texts.{CountsAfter}
 use Rattle.linking.specs.Modules.{RefusedFirst}
 use Rattle.session.proofs.LoadedLaws.{load_counted, scope_counted, is_told, stands_at}
 use Rattle.session.proofs.program.read_program.Goals as goal
@@ -39,5 +40,6 @@ returns-in_ok-of_scope-in-Err-link-clause-program g c =
         path_is = c.in_ok-path-in-Err-link.ensures ∙ ap path_of c.as_str.ensures.value;
         is_told = is;
       }),
-      scope_counted (see c.args.files.now) (see c.load.new.files) f path told is,
+      scope_counted (see c.args.files.now) (see c.load.new.files) f path told
+          (subst (λ r. CountsAfter r (g.F.Files.counts c.args.files.now) (g.F.Files.counts c.load.new.files)) c.in-Ok.is c.load.ensures.counted) is,
     )

@@ -1,13 +1,13 @@
 use Rattle.std.proofs.Common.{◌≡◌, ◌++◌, ◌∙◌, ap, sym, subst, List, ℕ, Option, Some, None, Bor}
 use Rattle.std.specs.Prelude.{IfOk}
 use Rattle.std.specs.Option.{option_map}
-use Rattle.edge.specs.Counts.{Rose}
+use Rattle.edge.specs.Counts.{counted_fetch}
 use Rattle.edge.specs.Files.{HoldsAt}
+use Rattle.edge.specs.declared.files.Fetched.TheVariants as fetched
 use Rattle.edge.specs.Seen.{seen_files}
 use Rattle.session.specs.declared.outcome.Outcome.TheVariants as outcome
 use Rattle.session.specs.Answers.{IsFound}
 use Rattle.session.specs.Loaded.{IsProgram}
-use Rattle.session.proofs.LoadedLaws.{rose}
 use Rattle.session.proofs.ReplayLaws.{Wants, all_found, may_replay, spelt, wanted_of, wanted_same}
 use Rattle.session.proofs.replay_command.replay.Given.{Over}
 use Rattle.session.proofs.replay_command.replay.Goals as goal
@@ -48,28 +48,24 @@ returns-in-Found-clause-answer g c =
     let same : b.0 ≡ c.deref.result.now = sym (c.deref.ensures.value ∙ (b.1 ∙ ap (λ xs. xs ++ b.0) c.new-bytes.ensures.items)) in
     let holds = subst (λ h. HoldsAt h c.args.path.now (Some b.0)) before.1 b.2 in
     let found = subst (λ w. IfOk c.judged.result (IsFound c.deref.result.now w)) (sym (wanted_same c.as_ref.result c.match-of.wanted c.as_ref.ensures.value)) c.judged.ensures in
-    all_found told c.args.path.now (option_map (λ (m : Bor (List ℕ)). m.now) c.args.of) wanted b.0 (see c.args.files.now) (see c.fetch.new.self) c.judged.result before.0 holds
+    all_found told c.args.path.now (option_map (λ (m : Bor (List ℕ)). m.now) c.args.of) wanted b.0 (see c.args.files.now) (see c.fetch.new.self) c.judged.result before.0 holds (c.in-Found.ensures.counted ∙ before.2)
     (subst (λ bytes. IfOk c.judged.result (IsFound bytes wanted)) (sym same) found)
 
 pub returns-in-Missing-clause-answer : goal.returns-in-Missing-clause-answer
 returns-in-Missing-clause-answer g c =
     let told = g.F.Files.held c.args.files.now in
-    let counts = g.F.Files.counts in
     let path = c.in_ok-from_str-in-Missing.field-0 in
     let before = before g (goal.at.returns-in-Missing-clause-answer g c).Joined-of in
-    let missing = subst (λ h. HoldsAt h c.args.path.now None) before.1 c.in-Missing.ensures.bytes.1 in
-    let rises : Rose (counts c.match-of.files).misses (counts c.fetch.new.self).misses = subst (λ n. Rose (counts c.match-of.files).misses n.misses) (sym c.in-Missing.ensures.counted) (rose (counts c.match-of.files).misses) in (
+    let missing = subst (λ h. HoldsAt h c.args.path.now None) before.1 c.in-Missing.ensures.bytes.1 in (
       may_replay told c.args.path.now (option_map (λ (m : Bor (List ℕ)). m.now) c.args.of) (wanted_of c.match-of.wanted) (outcome.MissingFile path) before.0
           (c.in_ok-from_str-in-Missing.ensures.ok, missing),
-      subst (λ n. Rose n.misses (counts c.fetch.new.self).misses) before.2 rises,
+      c.in-Missing.ensures.counted ∙ ap (counted_fetch fetched.Missing) before.2,
     )
 
 pub returns-in-Failed-clause-answer : goal.returns-in-Failed-clause-answer
 returns-in-Failed-clause-answer g c =
     let told = g.F.Files.held c.args.files.now in
-    let counts = g.F.Files.counts in
-    let before = before g (goal.at.returns-in-Failed-clause-answer g c).Joined-of in
-    let rises : Rose (counts c.match-of.files).fetch_faults (counts c.fetch.new.self).fetch_faults = subst (λ n. Rose (counts c.match-of.files).fetch_faults n.fetch_faults) (sym c.in-Failed.ensures.counted) (rose (counts c.match-of.files).fetch_faults) in (
+    let before = before g (goal.at.returns-in-Failed-clause-answer g c).Joined-of in (
       may_replay told c.args.path.now (option_map (λ (m : Bor (List ℕ)). m.now) c.args.of) (wanted_of c.match-of.wanted) outcome.ReadFault before.0 tt,
-      subst (λ n. Rose n.fetch_faults (counts c.fetch.new.self).fetch_faults) before.2 rises,
+      c.in-Failed.ensures.counted ∙ ap (counted_fetch fetched.Failed) before.2,
     )
