@@ -60,7 +60,7 @@ fn same_formulas<R: Reader>(
 
 /// Asks whether two trees are alike in the context: formulas of one value wherever its faces are
 /// true, or equal trees, for which the pairs then ask. The answer is no where they are formulas
-/// that differ.
+/// that differ. One closure is alike to itself, and is not read.
 fn ask_trees<R: Reader>(
     rows: &R,
     faces: &mut ContextFaces,
@@ -88,6 +88,9 @@ fn ask_trees<R: Reader>(
         IfOk result (λ asked. asked ≡ false → AreAlike (context_of (f faces.old.ctx.0))
         (tree_of (closure_meaning f known left)) (tree_of (closure_meaning f known right)) → ⊥) }
 {
+    if left == right {
+        return Ok(true);
+    }
     match same_formulas(rows, faces, environments, readings, left, right)? {
         Some(same) => Ok(same),
         None => {

@@ -1,11 +1,20 @@
 use Rattle.closures.specs.Shown.{lists}
 use Rattle.closures.specs.Closures.{closure_meaning}
+use Rattle.compare.proofs.AskLaws.{asks-true}
 use Rattle.side_conditions.specs.Contexts.{context_of}
-use Rattle.side_conditions.specs.Formulas.{AreSameFormulas}
+use Rattle.side_conditions.specs.Formulas.{AreAlike, AreSameFormulas}
 use Rattle.side_conditions.specs.Shapes.{tree_of}
 use Rattle.side_conditions.proofs.AlikeLaws.{formulas-asked, formulas-unlike, trees-asked}
-use Rattle.std.proofs.Common.{refl, Some, None}
+use Rattle.std.proofs.Common.{rules, ◌≡◌, refl, ap, inl, Some, None}
 use Rattle.side_conditions.proofs.alike.ask_trees.Goals as goal
+
+pub returns-then-eq-clause-yes : goal.returns-then-eq-clause-yes
+returns-then-eq-clause-yes g c =
+    let f = g.R.Rows.means c.args.rows.now in
+    let known = lists c.args.environments.now in
+    let H = context_of (f c.args.faces.now.ctx.0) in
+    let same : c.args.left ≡ c.args.right = search rules in
+    λ yes. asks-true f known (AreAlike H (tree_of (closure_meaning f known c.args.left)) (tree_of (closure_meaning f known c.args.right))) c.args.pairs.now.keys (inl (ap (λ z. tree_of (closure_meaning f known z)) same))
 
 pub returns-in-Some-clause-yes : goal.returns-in-Some-clause-yes
 returns-in-Some-clause-yes g c =
