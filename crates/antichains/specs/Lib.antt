@@ -1,3 +1,2 @@
 pub mod Antichains
 pub mod Reductions
-pub mod Stacks

@@ -5,8 +5,7 @@
 //! The sum `ab + b + ca + bc` is `ac + b`: `b` is within two others. It joins with `a` to `a + b`
 //! and meets it in `ab + ac`.
 //!
-//! What is made of such sums is a `Lattice`, and a `Stack` of it takes a tree one operator at a
-//! time.
+//! What is made of such sums is a `Lattice`.
 //!
 //! ```text
 //! let a = Product::single(alloc, A)?;                           // of elements A < B
@@ -20,13 +19,11 @@ pub mod elements;
 pub mod lattice;
 pub mod products;
 mod sorted;
-pub mod stack;
 pub mod sums;
 
 pub use elements::Element;
 pub use lattice::Lattice;
 pub use products::Product;
-pub use stack::Stack;
 pub use sums::Antichain;
 
 #[cfg(test)]

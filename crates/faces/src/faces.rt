@@ -13,7 +13,7 @@ ghost use Rattle.faces.specs.Faces.{HasRisingNames, IsIrredundant, LacksName};
 ghost use Rattle.faces.specs.Meets.{ImpliesTogether, CoversMeet, IsMergeOutside, IsMeetOutside};
 
 use crate::equations::Equation;
-use antichains::{Antichain, Lattice, Stack};
+use antichains::{Antichain, Lattice};
 use interval::{Form, Product};
 use std::alloc::{AllocError, Global};
 use std::marker::Model;
@@ -40,9 +40,6 @@ impl Model for Face {
 
     ghost invariant = { λ face. All IsConsistent face.conjs };
 }
-
-/// The faces of trees that wait for their operator.
-pub type FaceStack = Stack<Face>;
 
 impl Face {
     /// The face that is true at no point: the disjunction of nothing.

@@ -29,7 +29,7 @@ pub mod faces;
 
 pub use antichains::Lattice;
 pub use equations::Equation;
-pub use faces::{Conj, Face, FaceStack};
+pub use faces::{Conj, Face};
 
 #[cfg(test)]
 mod tests;

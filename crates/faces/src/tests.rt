@@ -2,71 +2,72 @@
 
 ghost use Rattle.std.specs.Prelude.{◌≡◌, false, IfOk};
 
-use crate::{Equation, Face, FaceStack, Lattice};
-use antichains::Stack;
-use interval::{Form, FormStack};
+use crate::{Equation, Face, Lattice};
+use interval::Form;
 use std::alloc::{AllocError, Global};
 use std::process::Abort;
 
-/// Replaces the two items on top by their meet or their join.
-fn combine<T: Lattice>(
-    rt: &impl Abort,
-    stack: &mut Stack<T>,
-    meets: bool,
-) -> Result<(), AllocError> {
-    assert!(rt; stack.len() >= 2);
-    if meets { stack.meet() } else { stack.join() }
+/// Takes the item on top.
+fn popped<T: Lattice>(rt: &impl Abort, items: &mut Vec<T>) -> T {
+    assert!(rt; !items.is_empty());
+    items.pop().unwrap()
 }
 
-/// Does what a symbol of a form says: `a` to `z` are names, `-` negates, `&` meets and `|` joins.
-fn step_form(
-    rt: &impl Abort,
-    alloc: Global,
-    forms: &mut FormStack,
-    symbol: u8,
-) -> Result<(), AllocError> {
-    match symbol {
-        b'&' | b'|' => combine(rt, forms, symbol == b'&'),
-        b'-' => {
-            assert!(rt; !forms.is_empty());
-            let form = forms.pop();
-            forms.push(form.neg()?)
-        }
-        name => forms.push(Form::name(alloc, u64::from(name))?),
+/// The meet of the two items on top, or their join.
+fn combined<T: Lattice>(rt: &impl Abort, items: &mut Vec<T>, meets: bool) -> Result<T, AllocError> {
+    let right = popped(rt, items);
+    let left = popped(rt, items);
+    if meets {
+        left.meet(&right)
+    } else {
+        left.join(&right)
     }
 }
 
-/// The face of a symbol: `_` is false, `^` is true, `0` and `1` take the form that is to be at that
-/// end, and `A` to `Z` make the names `a` to `z` of the face on top free.
+/// What a symbol makes of the forms before it: `a` to `z` are names, `-` negates, `&` meets and `|`
+/// joins.
+fn form_from(
+    rt: &impl Abort,
+    alloc: Global,
+    forms: &mut Vec<Form>,
+    symbol: u8,
+) -> Result<Form, AllocError> {
+    match symbol {
+        b'&' | b'|' => combined(rt, forms, symbol == b'&'),
+        b'-' => popped(rt, forms).neg(),
+        name => Form::name(alloc, u64::from(name)),
+    }
+}
+
+/// What a symbol makes of the forms and faces before it: `_` is false, `^` is true, `0` and `1` take
+/// the form that is to be at that end, `A` to `Z` make the names `a` to `z` of the face on top free,
+/// `*` meets and `+` joins.
 fn face_from(
     rt: &impl Abort,
     alloc: Global,
-    forms: &mut FormStack,
-    faces: &mut FaceStack,
+    forms: &mut Vec<Form>,
+    faces: &mut Vec<Face>,
     symbol: u8,
 ) -> Result<Face, AllocError> {
     match symbol {
         b'_' => Face::bottom(alloc),
         b'^' => Face::top(alloc),
-        b'0' | b'1' => {
-            assert!(rt; !forms.is_empty());
-            Face::eq(alloc, &forms.pop(), symbol == b'1')
-        }
-        name => {
-            assert!(rt; !faces.is_empty());
-            faces.pop().forall(u64::from(name.to_ascii_lowercase()))
-        }
+        b'0' | b'1' => Face::eq(alloc, &popped(rt, forms), symbol == b'1'),
+        b'*' | b'+' => combined(rt, faces, symbol == b'*'),
+        name => popped(rt, faces).forall(u64::from(name.to_ascii_lowercase())),
     }
 }
 
-/// The faces that a postfix text leaves; `*` meets and `+` joins.
-fn faces_of(rt: &impl Abort, alloc: Global, text: &str) -> Result<FaceStack, AllocError> {
-    let mut forms = FormStack::new(alloc);
-    let mut faces = FaceStack::new(alloc);
+/// The faces that a postfix text leaves.
+fn faces_of(rt: &impl Abort, alloc: Global, text: &str) -> Result<Vec<Face>, AllocError> {
+    let mut forms = Vec::new(alloc);
+    let mut faces = Vec::new(alloc);
     for symbol in text.as_bytes() {
         match *symbol {
-            b'a'..=b'z' | b'-' | b'&' | b'|' => step_form(rt, alloc, &mut forms, *symbol)?,
-            b'*' | b'+' => combine(rt, &mut faces, *symbol == b'*')?,
+            b'a'..=b'z' | b'-' | b'&' | b'|' => {
+                let form = form_from(rt, alloc, &mut forms, *symbol)?;
+                forms.push(form)?;
+            }
             _ => {
                 let face = face_from(rt, alloc, &mut forms, &mut faces, *symbol)?;
                 faces.push(face)?;
@@ -78,9 +79,7 @@ fn faces_of(rt: &impl Abort, alloc: Global, text: &str) -> Result<FaceStack, All
 
 /// The face of a postfix text.
 fn face_of(rt: &impl Abort, alloc: Global, text: &str) -> Result<Face, AllocError> {
-    let mut faces = faces_of(rt, alloc, text)?;
-    assert!(rt; !faces.is_empty());
-    Ok(faces.pop())
+    Ok(popped(rt, &mut faces_of(rt, alloc, text)?))
 }
 
 /// Asserts that a face made from one text has the conjunctions of another text's.
@@ -141,17 +140,6 @@ fn names_are_put_at_ends(rt: HostRuntime) -> Result<(), AllocError> {
     Ok(())
 }
 
-/// The faces that a postfix text leaves, the last one first.
-fn given_by(rt: &impl Abort, alloc: Global, text: &str) -> Result<Vec<Face>, AllocError> {
-    let mut stack = faces_of(rt, alloc, text)?;
-    let mut given = Vec::new(alloc);
-    for _ in 0..stack.len() {
-        assert!(rt; !stack.is_empty());
-        given.push(stack.pop())?;
-    }
-    Ok(given)
-}
-
 #[test]
 fn faces_hold(rt: HostRuntime) -> Result<(), AllocError> {
     for (text, given, holds) in [
@@ -175,7 +163,7 @@ fn faces_hold(rt: HostRuntime) -> Result<(), AllocError> {
         ("d1b1c0*+", "a0b0+a1c0+b1d1+e0", true),
         ("a0", "a0b0+a0b1+c0d0", true),
     ] {
-        let given = given_by(&rt, rt.alloc(), given)?;
+        let given = faces_of(&rt, rt.alloc(), given)?;
         let found = face_of(&rt, rt.alloc(), text)?.holds_under(&given)?;
         assert_eq!(rt; found, holds, "at {text}");
     }

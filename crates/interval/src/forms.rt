@@ -8,7 +8,7 @@ ghost use Rattle.interval.specs.Literals.{literal_cmp};
 ghost use Rattle.interval.specs.Forms.{product_value, form_value, HasValue, LacksName};
 
 use crate::literals::Literal;
-use antichains::{Antichain, Lattice, Stack};
+use antichains::{Antichain, Lattice};
 use std::alloc::{AllocError, Global};
 use std::marker::Model;
 
@@ -29,9 +29,6 @@ impl Model for Form {
 
     ghost view = { λ form. form.sum };
 }
-
-/// The forms of trees that wait for their operator.
-pub type FormStack = Stack<Form>;
 
 impl Form {
     /// The end 0: the sum of nothing.

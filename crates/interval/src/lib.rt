@@ -20,7 +20,7 @@ pub mod forms;
 pub mod literals;
 
 pub use antichains::Lattice;
-pub use forms::{Form, FormStack, Product};
+pub use forms::{Form, Product};
 pub use literals::Literal;
 
 #[cfg(test)]

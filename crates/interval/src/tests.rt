@@ -4,46 +4,52 @@ ghost use Rattle.std.specs.Prelude.{◌≡◌, true, false, IfOk};
 ghost use Rattle.points.specs.Values.{join, meet, negation};
 ghost use Rattle.interval.specs.Forms.{form_value, HasValue};
 
-use crate::{Form, FormStack, Lattice, Literal};
+use crate::{Form, Lattice, Literal};
 use std::alloc::{AllocError, Global};
 use std::process::Abort;
 
-/// Does what a symbol of a postfix text says: `a` to `z` are names, `0` and `1` the ends, `-`
-/// negates, `&` meets and `|` joins.
-fn step(
+/// Takes the form on top.
+fn popped(rt: &impl Abort, forms: &mut Vec<Form>) -> Form {
+    assert!(rt; !forms.is_empty());
+    forms.pop().unwrap()
+}
+
+/// The meet of the two forms on top, or their join.
+fn combined(rt: &impl Abort, forms: &mut Vec<Form>, meets: bool) -> Result<Form, AllocError> {
+    let right = popped(rt, forms);
+    let left = popped(rt, forms);
+    if meets {
+        left.meet(&right)
+    } else {
+        left.join(&right)
+    }
+}
+
+/// What a symbol of a postfix text makes of the forms before it: `a` to `z` are names, `0` and `1`
+/// the ends, `-` negates, `&` meets and `|` joins.
+fn form_from(
     rt: &impl Abort,
     alloc: Global,
-    stack: &mut FormStack,
+    forms: &mut Vec<Form>,
     symbol: u8,
-) -> Result<(), AllocError> {
+) -> Result<Form, AllocError> {
     match symbol {
-        b'0' => stack.push(Form::zero(alloc)?),
-        b'1' => stack.push(Form::one(alloc)?),
-        b'-' => {
-            assert!(rt; !stack.is_empty());
-            let form = stack.pop();
-            stack.push(form.neg()?)
-        }
-        b'&' => {
-            assert!(rt; stack.len() >= 2);
-            stack.meet()
-        }
-        b'|' => {
-            assert!(rt; stack.len() >= 2);
-            stack.join()
-        }
-        name => stack.push(Form::name(alloc, u64::from(name))?),
+        b'0' => Form::zero(alloc),
+        b'1' => Form::one(alloc),
+        b'-' => popped(rt, forms).neg(),
+        b'&' | b'|' => combined(rt, forms, symbol == b'&'),
+        name => Form::name(alloc, u64::from(name)),
     }
 }
 
 /// The form of a postfix text.
 fn form_of(rt: &impl Abort, alloc: Global, text: &str) -> Result<Form, AllocError> {
-    let mut stack = FormStack::new(alloc);
+    let mut forms = Vec::new(alloc);
     for symbol in text.as_bytes() {
-        step(rt, alloc, &mut stack, *symbol)?;
+        let form = form_from(rt, alloc, &mut forms, *symbol)?;
+        forms.push(form)?;
     }
-    assert!(rt; !stack.is_empty());
-    Ok(stack.pop())
+    Ok(popped(rt, &mut forms))
 }
 
 /// Asserts whether the forms of two postfix texts are the same.
