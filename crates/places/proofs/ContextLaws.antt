@@ -6,15 +6,12 @@ use Rattle.trees.specs.Judgements.{Context, Nil, WithVar, WithName, WithFace, Ju
 use Rattle.trees.specs.Language.{Ty, Tm}
 use Rattle.substitution.specs.Forms.{weaken}
 use Rattle.substitution.proofs.ThenLaws.{apply-id, apply-apply, shift_by-then-shift_by}
-use Rattle.places.specs.Contexts.{depth_of, outside, at_depth, type_in, under_variables}
+use Rattle.places.specs.Contexts.{depth_of, outside, at_depth, type_in}
 
 -- one shift more
 
 pub weaken-shift_by : (A : Tree) (k : ℕ) → weaken trees (apply A (shift_by k)) ≡ apply A (shift_by (suc k))
 weaken-shift_by A k = let e : k + 1 ≡ suc k = omega arith in apply-apply A (shift_by k) up ∙ ap (apply A) (shift_by-then-shift_by k 1 ∙ ap shift_by e)
-
-pub shift_by-weaken : (A : Tree) (k : ℕ) → apply (weaken trees A) (shift_by k) ≡ apply A (shift_by (suc k))
-shift_by-weaken A k = let e : 1 + k ≡ suc k = omega arith in apply-apply A up (shift_by k) ∙ ap (apply A) (shift_by-then-shift_by 1 k ∙ ap shift_by e)
 
 -- from one depth to another and on
 pub shifts-join : (from mid to : ℕ) → to ≤ mid → mid ≤ from → then (shift_by (mid - to)) (shift_by (from - mid)) ≡ shift_by (from - to)
@@ -83,25 +80,6 @@ type_in-deep (suc k) (WithVar H A) le = ap (option_map (weaken trees)) (type_in-
 type_in-deep zero (WithName H) le = refl
 type_in-deep (suc k) (WithName H) le = ap (option_map (weaken trees)) (type_in-deep k H (omega arith))
 type_in-deep k (WithFace H p) le = type_in-deep k H le
-
--- variables of one type
-
-pub under-last : (n : ℕ) (A : Tree) (H : Context) → under_variables (suc n) A H ≡ WithVar (under_variables n A H) (apply A (shift_by n))
-under-last zero A H = ap (WithVar H) (sym (apply-id A))
-under-last (suc n) A H = under-last n (weaken trees A) (WithVar H A) ∙ ap (WithVar (under_variables (suc n) A H)) (shift_by-weaken A n)
-
-pub depth-under : (n : ℕ) (A : Tree) (H : Context) → depth_of (under_variables n A H) ≡ depth_of H + n
-depth-under zero A H = omega arith
-depth-under (suc n) A H = omega (arith, depth-under n (weaken trees A) (WithVar H A))
-
-pub outside-under : (n : ℕ) (A : Tree) (H : Context) → outside n (under_variables n A H) ≡ H
-outside-under zero A H = refl
-outside-under (suc n) A H = ap (outside (suc n)) (under-last n A H) ∙ outside-under n A H
-
-pub at_depth-under : (n : ℕ) (A : Tree) (H : Context) → at_depth (depth_of H) (under_variables n A H) ≡ H
-at_depth-under n A H =
-    let e : depth_of (under_variables n A H) - depth_of H ≡ n = omega (arith, depth-under n A H) in
-    ap (λ k. outside k (under_variables n A H)) e ∙ outside-under n A H
 
 -- nothing passed
 

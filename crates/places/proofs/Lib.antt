@@ -2,6 +2,5 @@ pub mod ContextLaws
 pub mod GrowthLaws
 pub mod LevelLaws
 pub mod PlaceLaws
-pub mod UnderLaws
 pub mod VariableLaws
 pub mod NameLaws

@@ -32,8 +32,3 @@ type_in (WithVar H A) (suc k) = option_map (weaken trees) (type_in H k)
 type_in (WithName H) zero = None
 type_in (WithName H) (suc k) = option_map (weaken trees) (type_in H k)
 type_in (WithFace H p) k = type_in H k
-
--- under so many variables of the type A, which stands before them all
-abbrev pub under_variables : ℕ → Tree → Context → Context
-under_variables zero A H = H
-under_variables (suc n) A H = under_variables n (weaken trees A) (WithVar H A)

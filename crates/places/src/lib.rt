@@ -5,8 +5,8 @@
 //! ```text
 //! let mut places = Places::new(alloc, book)?;
 //! let (_, numbers) = numbers_type(book, places.ctx())?;
-//! places.enter_all(book, numbers, 3)?;
-//! places.enter_name(book)?;                    // the place of [].nat.nat.nat.I, of depth 4
+//! places.enter(book, numbers)?;
+//! places.enter_name(book)?;                    // the place of [].nat.I, of depth 2
 //! places.variable(book, 1)?                    // Some: var 1 with its type
 //! places.variable(book, 0)?                    // None: this is a name
 //! ```

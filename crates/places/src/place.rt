@@ -9,7 +9,7 @@ ghost use Rattle.conditions.specs.Sides.{is_name as is_name_of};
 ghost use Rattle.book.specs.Contents.{Contents};
 ghost use Rattle.book.specs.Shown.{Extends};
 ghost use Rattle.typed_nodes.specs.Typed.{IsTyped, Says};
-ghost use Rattle.places.specs.Contexts.{at_depth, depth_of, outside, type_in, under_variables};
+ghost use Rattle.places.specs.Contexts.{at_depth, depth_of, outside, type_in};
 ghost use Rattle.places.specs.Places.{IsLevel, IsNext, IsPlace, Weakens};
 
 use book::{Book, NodeId};
@@ -187,24 +187,6 @@ impl Places {
         let up = past_name(book, here)?;
         let ctx = with_name(book, self.ctx())?;
         Ok(self.push(book, ctx, Entry::Name, up)?)
-    }
-
-    /// Goes under so many variables of a type, which stands before them all. Out of memory, the
-    /// place may be under some of them.
-    pub fn enter_all(&mut self, book: &mut Book, ty: NodeId, count: usize) -> Result<(), AllocError>
-        requires { (H : Context) × (A : Tree) × IsPlace book.old self.old H
-            × Says book.old ty (Ty H A) }
-        ensures extends { Extends book.old book.new }
-        ensures place { (H : Context) (A : Tree) → IsPlace book.old self.old H
-            → Says book.old ty (Ty H A)
-            → OnOk result (IsPlace book.new self.new (under_variables count A H)) }
-    {
-        let level = self.depth();
-        for _variable in 0..count {
-            let here = self.type_from(book, ty, level)?;
-            self.enter(book, here)?;
-        }
-        Ok(())
     }
 
     /// Leaves the last entry. The answer is the node of its type, if it is a variable.

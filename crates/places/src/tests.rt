@@ -1,9 +1,7 @@
 //! Variables and names of a place, and how many nodes variables take.
 
 ghost use Rattle.std.specs.Prelude.{IfOk};
-ghost use Rattle.trees.specs.Judgements.{Nil, trees};
-ghost use Rattle.rules.specs.Table.{nat};
-ghost use Rattle.places.specs.Contexts.{under_variables};
+ghost use Rattle.trees.specs.Judgements.{Context};
 ghost use Rattle.places.specs.Places.{IsPlace};
 
 use crate::Places;
@@ -12,14 +10,16 @@ use std::alloc::{AllocError, Global};
 use std::test::Fail;
 use typed_nodes::numbers_type;
 
-/// A place under so many numbers.
+/// A place under so many numbers, each of the outermost type.
 fn under_numbers(alloc: Global, book: &mut Book, count: usize) -> Result<Places, AllocError>
-    ensures { IfOk result (λ places.
-        IsPlace book.new places (under_variables count (nat trees) Nil)) }
+    ensures { IfOk result (λ places. (H : Context) × IsPlace book.new places H) }
 {
     let mut places = Places::new(alloc, book)?;
     let (_, numbers) = numbers_type(book, places.ctx())?;
-    places.enter_all(book, numbers, count)?;
+    for _variable in 0..count {
+        let here = places.type_from(book, numbers, 0)?;
+        places.enter(book, here)?;
+    }
     Ok(places)
 }
 
