@@ -45,6 +45,7 @@ impl Few {
         self.count += 1;
     }
 
+    /// The numbers, in order.
     pub fn as_slice(&self) -> &[u64]
         ensures value { result.now ≡ self.now }
         ensures few { length result.now ≤ 16 }

@@ -230,7 +230,7 @@ impl Book {
         let _ = &self.nodes;
     }
 
-    /// There are no more rows than a table tells apart.
+    /// There are at most 2^48 rows, as many as a slot of the region can number.
     pub fn few_rows(&self)
         ensures { length self.now.rows ≤ 2 ^ 48 }
     {

@@ -48,6 +48,7 @@ impl Environments {
     ghost use Rattle.closures.specs.Environments.{IsWithin, listed, deepened, waiting, deepest};
     ghost use Rattle.closures.specs.Shown.{lists};
 
+    /// No nodes.
     pub fn new(alloc: Global) -> Environments
         ensures { lists result ≡ [] }
     {

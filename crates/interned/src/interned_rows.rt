@@ -56,7 +56,7 @@ impl InternedRows {
         self.region.len()
     }
 
-    /// There are no more rows than a table tells apart.
+    /// There are at most 2^48 rows, as many as a slot of the region can number.
     pub fn few_rows(&self)
         ensures { length (things self.now) ≤ 2 ^ 48 }
     {

@@ -45,6 +45,7 @@ impl Words {
         self.count = end;
     }
 
+    /// The words, in order.
     pub fn as_slice(&self) -> &[u64]
         ensures value { result.now ≡ self.now }
         ensures few { length result.now ≤ 32 }

@@ -47,7 +47,7 @@ pub(crate) struct Level {
     pub(crate) jump: Weakening,
 }
 
-/// A place: its context, and the contexts that this one ends.
+/// A place: its context, and the contexts that this one goes on from.
 #[derive(Drop)]
 pub struct Places {
     pub(crate) empty: NodeId,

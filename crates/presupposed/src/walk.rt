@@ -203,8 +203,8 @@ impl Search {
     }
 }
 
-/// The node that answers a question, or that of a right side which is wanted and not had. It is
-/// found in one pass through the derivation: what was found is not looked for again.
+/// The node that answers a question, or that of a right side which is wanted and not had. Each
+/// question is answered once; a part of a type is looked up each time it is asked for.
 ///
 /// # Errors
 /// Only where memory runs out.

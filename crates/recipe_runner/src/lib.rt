@@ -22,7 +22,7 @@ mod numbers;
 
 pub use earlier::{Earlier, NoRecipes};
 pub use interpreter::run;
-pub use numbers::{MOST_ROWS, Numbers};
+pub use numbers::{MOST_NUMBERS, Numbers};
 
 /// A table that derives a statement may be run over a book: where the parts mean things at which
 /// the statement may stand, and the premises conclude what it wants there.

@@ -5,13 +5,13 @@ ghost use Rattle.std.specs.Prelude.{◌≡◌, ◌+◌, ◌<◌, ◌≤◌, ◌+
 use std::marker::Model;
 
 /// The most numbers that the rows of a recipe make.
-pub const MOST_ROWS: usize = 512;
+pub const MOST_NUMBERS: usize = 512;
 
-/// A list of at most 512 numbers, held in place, so that no row of it wants memory. Contracts see
-/// the list.
+/// A list of at most 512 numbers, held in place, so that it takes no memory. Contracts see the
+/// list.
 #[derive(Drop)]
 pub struct Numbers {
-    cells: [u64; MOST_ROWS],
+    cells: [u64; MOST_NUMBERS],
     count: usize,
 }
 
@@ -31,7 +31,7 @@ impl Numbers {
         ensures { result ≡ [] }
     {
         Numbers {
-            cells: [0; MOST_ROWS],
+            cells: [0; MOST_NUMBERS],
             count: 0,
         }
     }
@@ -55,6 +55,7 @@ impl Numbers {
         }
     }
 
+    /// The numbers, in order.
     pub fn as_slice(&self) -> &[u64]
         ensures value { result.now ≡ self.now }
         ensures few { length result.now ≤ 512 }

@@ -58,6 +58,7 @@ fn held_as(claims: &mut Vec<Claim>, row: Filed) -> Result<Held, AllocError>
 }
 
 impl FiledRows {
+    /// No rows.
     pub fn new(alloc: Global) -> FiledRows
         ensures { result ≡ [] }
     {
@@ -67,12 +68,14 @@ impl FiledRows {
         }
     }
 
+    /// The number of rows.
     pub fn len(&self) -> usize
         ensures { result ≡ length self.now }
     {
         self.held.len()
     }
 
+    /// Whether there is no row.
     pub fn is_empty(&self) -> bool
         ensures { result ≡ (length self.now == 0) }
     {

@@ -4,7 +4,7 @@ ghost use Rattle.std.specs.Prelude.{◌≡◌, ◌<◌, ◌≤◌, ℕ, List, []
 
 use std::marker::Model;
 
-/// How many rows a stack holds at most, and how many instructions make a place at most.
+/// How many rows a stack holds at most.
 pub const MOST: usize = 16;
 
 /// A stack of at most `MOST` rows. Contracts see the list of them, the last pushed first.
@@ -23,6 +23,7 @@ impl Model for Stack {
 }
 
 impl Stack {
+    /// The stack with no row.
     pub fn new() -> Self
         ensures { result ≡ [] }
     {
@@ -32,6 +33,7 @@ impl Stack {
         }
     }
 
+    /// Puts a row on top.
     pub fn push(&mut self, row: u64)
         requires { length self.old < 16 }
         ensures { self.new ≡ row ∷ self.old }
@@ -40,6 +42,7 @@ impl Stack {
         self.cells[self.top] = row;
     }
 
+    /// Takes the row from the top.
     pub fn pop(&mut self) -> u64
         requires { 0 < length self.old }
         ensures { self.old ≡ result ∷ self.new }
@@ -66,6 +69,7 @@ impl Stack {
         &self.cells[self.top..self.top + count]
     }
 
+    /// Takes so many rows off the stack.
     pub fn remove(&mut self, count: usize)
         requires { count ≤ length self.old }
         ensures { self.new ≡ drop count self.old }

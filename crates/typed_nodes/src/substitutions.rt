@@ -21,7 +21,7 @@ use typing_rules::{
     places_are_derived, places_at_trees,
 };
 
-/// `ctx ()`
+/// `ctx []`
 pub fn empty(book: &mut Book) -> Result<NodeId, AllocError>
     ensures extends { Extends book.old book.new }
     ensures typed { IfOk result (λ node. Says book.new node (Ctx Nil)) }

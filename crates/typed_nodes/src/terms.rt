@@ -23,7 +23,7 @@ use typing_rules::{
     TRANSPORTED_GIVES, ZERO_TERM, ZERO_TERM_GIVES, terms_are_derived, terms_at_trees,
 };
 
-/// `H >> zero : nat`
+/// `H >> zero : nat`, of `ctx H`
 pub fn zero(book: &mut Book, ctx: NodeId) -> Result<NodeId, AllocError>
     requires { (H : Context) × Says book.old ctx (Ctx H) }
     ensures extends { Extends book.old book.new }
@@ -171,7 +171,7 @@ pub fn paired(
     Ok(derive(book, PAIR_TERM, PAIR_TERM_GIVES, &[], &premises)?)
 }
 
-/// `H >> plam b : pathp A b{0} b{1}`, of `H.I >> b : A`
+/// `H >> plam b : pathp A b{0} b{1}`, of `ctx H` and `H.I >> b : A`
 pub fn path(book: &mut Book, ctx: NodeId, body: NodeId) -> Result<NodeId, AllocError>
     requires { (H : Context) × (A b : Tree) × Says book.old ctx (Ctx H)
         × Says book.old body (Tm (WithName H) b A) }
@@ -213,7 +213,7 @@ pub fn path_at(book: &mut Book, line: Line, path: NodeId, formula: u64) -> Resul
     })
 }
 
-/// `H >> comp A f0 empty a : A{1}`, of `H.I >> A` and `H >> a : A{0}`
+/// `H >> comp A f0 empty a : A{1}`, of `ctx H`, `H.I >> A` and `H >> a : A{0}`
 pub fn transported(
     book: &mut Book,
     ctx: NodeId,
@@ -240,8 +240,8 @@ pub fn transported(
     })
 }
 
-/// `H >> natrec P a b n : P{n}`, of `H.nat >> P`, `H >> a : P{zero}`, `H >> b : motive_step P` and
-/// `H >> n : nat`
+/// `H >> natrec P a b n : P{n}`, of `ctx H`, `H.nat >> P`, `H >> a : P{zero}`,
+/// `H >> b : motive_step P` and `H >> n : nat`
 pub fn recursion(
     book: &mut Book,
     ctx: NodeId,
