@@ -101,6 +101,9 @@ fn literal_of(
 
 /// What a type literally is, whatever instances and conversions spell it. No rows are made where
 /// the form stands at home in the node of the type, as a type.
+///
+/// Variables are looked up in the substitutions before them as `looked_up` says, which takes
+/// exponential time where composites share their parts.
 pub fn literal(alloc: Global, book: &mut Book, at: TypeAt) -> Result<Literal, AllocError>
     requires { (H : Context) × (T : Tree) × IsTypeAt book.old at H T }
     ensures extends { Extends book.old book.new }

@@ -94,6 +94,10 @@ fn past_index(book: &Book, below: NodeId, entry: Entry, index: u64) -> u64
 
 /// What the innermost variable becomes under what waits: a node that types it, at the type of the
 /// variable, or None where it is a variable.
+///
+/// A part of a composite is walked as often as it stands there: where `c` is composed with itself,
+/// the outcome with itself, and so on k times, that takes 2^k steps. A weakening takes a few steps
+/// for each entry that it passes.
 pub fn looked_up(book: &Book, waiting: &mut Vec<Waiting>) -> Result<Option<NodeId>, AllocError>
     requires { (H : Context) × (T S : Tree)
         × IsEntered book.now 0 (reverse waiting.old.items) H T S }
