@@ -42,7 +42,8 @@ pub struct Environments {
 }
 
 impl Environments {
-    ghost use Rattle.std.specs.Prelude.{◌≡◌, ◌<◌, ◌≤◌, ◌+◌, ◌∷◌, [], length, slice_get, IfOk, Some};
+    ghost use Rattle.std.specs.Prelude.{◌≡◌, ◌<◌, ◌≤◌, ◌+◌, ◌∷◌, [], length, slice_get, Some};
+    ghost use Rattle.std.specs.Prelude.{IfOk, OnErr};
     ghost use Rattle.std.specs.List.{All};
     ghost use Rattle.rows.specs.Tables.{Grows};
     ghost use Rattle.closures.specs.Environments.{IsWithin, listed, deepened, waiting, deepest};
@@ -69,8 +70,8 @@ impl Environments {
         self.nodes.len()
     }
 
-    /// Forgets all nodes, and keeps their memory. The cost is that of the nodes, where `clear` would
-    /// go over all the room that the most nodes so far have taken.
+    /// Forgets all nodes, and keeps their memory. The cost is that of the nodes, where `clear` of
+    /// the set would go over all the room that the most nodes so far have taken.
     pub fn clear(&mut self)
         ensures { lists self.new ≡ [] }
     {
@@ -94,6 +95,7 @@ impl Environments {
         ensures list { IfOk result (λ env. listed (lists self.new) env ≡
             waiting 0 delayed ∷ listed (lists self.old) rest) }
         ensures within { IfOk result (λ env. IsWithin (lists self.new) env) }
+        ensures err { OnErr result (lists self.new ≡ lists self.old) }
     {
         match self.nodes.insert_full(Node { delayed, rest }) {
             Ok((at, _)) => Ok(Environment::Node(at, 0)),

@@ -16,7 +16,7 @@ use weakenings::{passed, shift_of_both, undone};
 const MOST_ROW_WORDS: u64 = 8;
 
 /// Rows named by their numbers from 0, equal rows by one number. Contracts see the list of what
-/// they mean. After out of memory the rows are as before.
+/// they mean. After out of memory each row means what it did.
 ///
 /// Shifts are added up, a variable under a shift is a variable, and a tree under the identity is
 /// the tree: so what is weakened, however that is done, has one row.

@@ -1,6 +1,7 @@
 -- What rows in memory mean, and how their kids and substitutions stand beside them.
-use Rattle.std.specs.Prelude.{◌≡◌, ℕ, List, [], ◌∷◌, length, take, drop, Option, Some, None, IsSome, IsTrue}
-use Rattle.std.specs.Prelude.{unwrap_or, Bool, true, false, slice_get, option_and_then, sum_by}
+use Rattle.std.specs.Prelude.{◌≡◌, ℕ, List, [], ◌∷◌, length, take, drop, slice_get, sum_by}
+use Rattle.std.specs.Prelude.{Option, Some, None, IsSome, unwrap_or, option_and_then}
+use Rattle.std.specs.Prelude.{Bool, true, false, IsTrue}
 use Rattle.trees.specs.declared.op.Op.{Op}
 use Rattle.trees.specs.Operators.{kids_of}
 use Rattle.trees.specs.Trees.{Subst, Var, shift_by, count_of}

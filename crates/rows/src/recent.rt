@@ -2,8 +2,11 @@
 
 use std::alloc::Global;
 
+/// The bits of a digest that tell its place.
+const BITS: u32 = 12;
+
 /// How many rows are remembered at most, in 64 KB.
-const PLACES: usize = 1 << 12;
+const PLACES: usize = 1 << BITS;
 
 /// A row, with the digest of what it holds.
 #[derive(Clone, Copy, Debug)]
@@ -49,5 +52,5 @@ impl Recent {
 /// Of a digest the first bits, which every number of a row moves.
 #[inline(always)]
 fn place_of(digest: u64) -> usize {
-    (digest >> 52) as usize
+    (digest >> (u64::BITS - BITS)) as usize
 }

@@ -24,14 +24,15 @@ pub struct RowStore {
 
 impl RowStore {
     ghost use Rattle.std.specs.Prelude.{◌≡◌, ◌↔◌, ◌<◌, ◌-◌, [], length, take, option_map};
-    ghost use Rattle.std.specs.Prelude.{option_and_then, slice_get, IfOk, IfSome, OnErr, IsSome, IsTrue};
-    ghost use Rattle.std.specs.Prelude.{Some};
+    ghost use Rattle.std.specs.Prelude.{option_and_then, slice_get, Some};
+    ghost use Rattle.std.specs.Prelude.{IfOk, IfSome, OnErr, IsSome, IsTrue};
     ghost use Rattle.std.specs.List.{All};
     ghost use Rattle.trees.specs.Trees.{greatest_shift};
     ghost use Rattle.trees.specs.Things.{Kept, both, kind_of, made, meanings, then_of};
     ghost use Rattle.rows.specs.Views.{IsSubst, IsOfKind, IsSubFit, ShiftAtMost, sub_meaning};
     ghost use Rattle.rows.specs.Views.{IsFit, row_meaning};
-    ghost use Rattle.rows.specs.Held.{held_meaning, held_row_meaning, held_row_names, is_alone, IsSizeAt};
+    ghost use Rattle.rows.specs.Held.{held_meaning, held_row_meaning, held_row_names, is_alone};
+    ghost use Rattle.rows.specs.Held.{IsSizeAt};
     ghost use Rattle.rows.specs.Shown.{things, store_means};
 
     /// No rows.
@@ -119,7 +120,8 @@ impl RowStore {
     /// The row of that number, if there is one.
     #[inline(always)]
     pub fn row_at(&self, at: u64) -> Option<Row<'_>>
-        ensures { let f = store_means self.now in
+        ensures there { IsSome result ↔ at < length (things self.now) }
+        ensures meaning { let f = store_means self.now in
             IfSome result (λ row. f at ≡ row_meaning f row) }
     {
         if at >= self.len() as u64 {
@@ -161,6 +163,7 @@ impl RowStore {
         ensures kept { Kept (store_means self.old) (store_means self.new) }
         ensures meaning { IfOk result (λ at.
             store_means self.new at ≡ row_meaning (store_means self.old) row.entry) }
+        ensures err { OnErr result (things self.new ≡ things self.old) }
     {
         let digest = row.digest();
         match self.recent_row(digest, row) {
@@ -179,6 +182,7 @@ impl RowStore {
         ensures kept { Kept (store_means self.old) (store_means self.new) }
         ensures meaning { IfOk result (λ at.
             store_means self.new at ≡ row_meaning (store_means self.old) row.entry) }
+        ensures err { OnErr result (things self.new ≡ things self.old) }
     {
         match row {
             Row::Term(TermRow::Var(index)) => Ok(self.add_alone(Held::Var(index))?),
