@@ -3,7 +3,7 @@
 ghost use Rattle.std.specs.Prelude.{◌≡◌, IsTrue};
 ghost use Rattle.rows.specs.Views.{IsTree, IsSubst};
 
-use rows::{Reader, SubId, SubRow, TermId, TermRow};
+use rows::{Reader, SubId, TermId, TermRow};
 
 /// Whether two rows of substitutions are one, or read alike.
 fn substs_read_alike<R: Reader>(rows: &R, left: SubId, right: SubId) -> bool
@@ -11,15 +11,7 @@ fn substs_read_alike<R: Reader>(rows: &R, left: SubId, right: SubId) -> bool
     requires right { IsSubst (R.means rows.now right.0) }
     ensures { IsTrue result → R.means rows.now left.0 ≡ R.means rows.now right.0 }
 {
-    if left == right {
-        return true;
-    }
-    match (rows.subst(left), rows.subst(right)) {
-        (SubRow::Shift(n), SubRow::Shift(m)) => n == m,
-        (SubRow::Push(d, a), SubRow::Push(e, b)) => d == e && a == b,
-        (SubRow::Then(d, e), SubRow::Then(c, f)) => d == c && e == f,
-        _ => false,
-    }
+    left == right || rows.subst(left) == rows.subst(right)
 }
 
 /// Whether two rows of trees are one, or read alike: as instances of one row by substitutions that
@@ -33,11 +25,9 @@ pub fn read_alike<R: Reader>(rows: &R, left: TermId, right: TermId) -> bool
         return true;
     }
     match (rows.term(left), rows.term(right)) {
-        (TermRow::Var(k), TermRow::Var(l)) => k == l,
-        (TermRow::Make(op, kids), TermRow::Make(other, others)) => op == other && kids == others,
         (TermRow::Instance(t, d), TermRow::Instance(u, e)) => {
             t == u && substs_read_alike(rows, d, e)
         }
-        _ => false,
+        (row, other) => row.reads_as(other),
     }
 }

@@ -48,9 +48,10 @@ impl TermRow<'_> {
     ghost use Rattle.trees.specs.Things.{Meanings};
     ghost use Rattle.rows.specs.Views.{term_meaning};
 
-    /// Whether two rows of trees read alike.
+    /// Whether two rows of trees read alike. Then they mean the same, whatever the rows mean that
+    /// they name.
     #[inline(always)]
-    fn reads_as(self, other: TermRow<'_>) -> bool
+    pub fn reads_as(self, other: TermRow<'_>) -> bool
         ensures { IsTrue result → (f : Meanings) →
             term_meaning f self.entry ≡ term_meaning f other.entry }
     {
