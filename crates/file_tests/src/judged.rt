@@ -2,7 +2,7 @@
 
 ghost use Rattle.std.specs.Prelude.{◌<◌, ◌^◌};
 
-use replay::{Judged, Rows, Verdict, judge};
+use replay::{Judged, JudgedRows, Verdict, judge};
 use rows::{CtxId, CtxRow, Maker, Row, SubId, SubRow, TermId, TermRow};
 use std::alloc::{AllocError, Global};
 use std::process::Abort;
@@ -365,7 +365,7 @@ fn long_files_are_judged(rt: HostRuntime) -> Result<(), Fail> {
 
 /// The rows of a file alone. The tests check them by functions that borrow them, and drop them by
 /// name: what drops them is long to prove.
-fn rows_of(alloc: Global, bytes: &[u8]) -> Result<Rows, AllocError> {
+fn rows_of(alloc: Global, bytes: &[u8]) -> Result<JudgedRows, AllocError> {
     let Judged { verdict: _, rows } = judge(alloc, bytes)?;
     Ok(rows)
 }
@@ -373,20 +373,20 @@ fn rows_of(alloc: Global, bytes: &[u8]) -> Result<Rows, AllocError> {
 // A root about the empty context and one about a type in it.
 const TWO_ROOTS: &[u8] = b"rules 1\nc nil\nn ctx.nil\nn nat.u 1 2\nr 2\nr 3\n";
 
-fn first_root_is_nil(rt: &impl Abort, rows: &mut Rows) -> Result<bool, AllocError> {
+fn first_root_is_nil(rt: &impl Abort, rows: &mut JudgedRows) -> Result<bool, AllocError> {
     assert!(rt; rows.root_count() > 0);
     let nil = rows.add(Row::Context(CtxRow::Nil))?;
     let root = rows.root_claim(0);
     rows.same_claim(root, Claim::Ctx(nil))
 }
 
-fn first_roots_are_one(rt: &impl Abort, rows: &mut Rows) -> Result<bool, AllocError> {
+fn first_roots_are_one(rt: &impl Abort, rows: &mut JudgedRows) -> Result<bool, AllocError> {
     assert!(rt; rows.root_count() > 1);
     let (first, second) = (rows.root_claim(0), rows.root_claim(1));
     rows.same_claim(first, second)
 }
 
-fn assert_roots(rt: &impl Abort, rows: &mut Rows) -> Result<(), Fail> {
+fn assert_roots(rt: &impl Abort, rows: &mut JudgedRows) -> Result<(), Fail> {
     assert!(rt; rows.root_count() == 2);
     assert!(rt; first_root_is_nil(rt, rows)?);
     assert!(rt; !first_roots_are_one(rt, rows)?);
@@ -404,7 +404,7 @@ fn roots_are_compared_with_claims(rt: HostRuntime) -> Result<(), Fail> {
     checked
 }
 
-fn assert_rows_are_found(rt: &impl Abort, rows: &mut Rows) -> Result<(), Fail> {
+fn assert_rows_are_found(rt: &impl Abort, rows: &mut JudgedRows) -> Result<(), Fail> {
     let nil = rows.add(Row::Context(CtxRow::Nil))?;
     let nat = rows.add(Row::Term(TermRow::Make(Op::Nat, &[])))?;
     let zero = rows.add(Row::Term(TermRow::Make(Op::Zero, &[])))?;
@@ -424,7 +424,7 @@ fn rows_of_the_file_are_found(rt: HostRuntime) -> Result<(), Fail> {
     checked
 }
 
-fn assert_weakens_to_one_row(rt: &impl Abort, rows: &mut Rows) -> Result<(), Fail> {
+fn assert_weakens_to_one_row(rt: &impl Abort, rows: &mut JudgedRows) -> Result<(), Fail> {
     let var = rows.add(Row::Term(TermRow::Var(0)))?;
     let one = rows.add(Row::Subst(SubRow::Shift(1)))?;
     let instance = Row::Term(TermRow::Instance(TermId(var), SubId(one)));

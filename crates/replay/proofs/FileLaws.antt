@@ -22,7 +22,7 @@ use Rattle.replay.specs.declared.judging.Verdict.TheVariants.{Yes, No}
 use Rattle.replay.specs.Verdicts.{VerdictIs}
 use Rattle.replay.specs.Meant.{meant_by, conclusions, root_node, root_nodes}
 use Rattle.replay.specs.Shown.{root_judgements, JudgedIs}
-use Rattle.replay.specs.declared.judged_rows.Rows.{Rows}
+use Rattle.replay.specs.declared.judged_rows.JudgedRows.{JudgedRows}
 use Rattle.derivation.specs.Meanings.{Meaning, conclusion_at}
 use Rattle.derivation.proofs.UniqueLaws.{rows_one}
 use Rattle.derivation.proofs.PrefixLaws.{rows_parts, rows_whole, begins_take}
@@ -171,18 +171,18 @@ next_misspelt bytes old new all roots k p is = rw is.1 (bad_spelling bytes old a
 
 -- what is found where no byte is left
 
-pub end_empty : (bytes : List ℕ) (old new : Reading) (rows : Rows) (len : ℕ) → Progress bytes old (meant_by rows.judge) rows.roots.items → NextIs old new next.End → len ≡ length (meant_by rows.judge) → len ≡ 0 → FirstBad bytes 0
+pub end_empty : (bytes : List ℕ) (old new : Reading) (rows : JudgedRows) (len : ℕ) → Progress bytes old (meant_by rows.judge) rows.roots.items → NextIs old new next.End → len ≡ length (meant_by rows.judge) → len ≡ 0 → FirstBad bytes 0
 end_empty bytes old new rows len p is n empty = nothing_there bytes old (meant_by rows.judge) rows.roots.items p is.0 (sym n ∙ empty)
 
-pub end_some : (bytes : List ℕ) (old new : Reading) (rows : Rows) (len count : ℕ) → Progress bytes old (meant_by rows.judge) rows.roots.items → NextIs old new next.End → len ≡ length (meant_by rows.judge) → 0 < len → count ≡ length (root_judgements rows) → JudgedIs bytes (Yes len count) rows
+pub end_some : (bytes : List ℕ) (old new : Reading) (rows : JudgedRows) (len count : ℕ) → Progress bytes old (meant_by rows.judge) rows.roots.items → NextIs old new next.End → len ≡ length (meant_by rows.judge) → 0 < len → count ≡ length (root_judgements rows) → JudgedIs bytes (Yes len count) rows
 end_some bytes old new rows len count p is n some c =
     let done = all_done bytes old (meant_by rows.judge) rows.roots.items p is.0 (omega arith) in
     (done.0, subst (λ k. Derives bytes k (root_judgements rows)) (sym n) done.1, c)
 
 -- a verdict with its roots is a verdict
-pub verdict_of : (bytes : List ℕ) (verdict : Verdict) (rows : Rows) → JudgedIs bytes verdict rows → VerdictIs bytes verdict
+pub verdict_of : (bytes : List ℕ) (verdict : Verdict) (rows : JudgedRows) → JudgedIs bytes verdict rows → VerdictIs bytes verdict
 verdict_of bytes (Yes n k) rows is = (is.0, root_judgements rows, is.1, is.2)
 verdict_of bytes (No row) rows is = is
 
-pub roots_of_yes : (bytes : List ℕ) (verdict : Verdict) (rows : Rows) → JudgedIs bytes verdict rows → (n k : ℕ) → verdict ≡ Yes n k → Derives bytes n (root_judgements rows)
+pub roots_of_yes : (bytes : List ℕ) (verdict : Verdict) (rows : JudgedRows) → JudgedIs bytes verdict rows → (n k : ℕ) → verdict ≡ Yes n k → Derives bytes n (root_judgements rows)
 roots_of_yes bytes verdict rows is n k e = (rw e at is).1

@@ -12,13 +12,13 @@ use theory::Claim;
 /// A row that is a tree, a substitution or a context has a number of its own here, which claims
 /// name; it is not the number of its line in the file.
 #[derive(Drop)]
-pub struct Rows {
+pub struct JudgedRows {
     judge: RowJudge,
     roots: Vec<u64>,
     ghost are_nodes: { AreNodes (meant_by judge) roots.items },
 }
 
-impl Rows {
+impl JudgedRows {
     ghost use Rattle.std.specs.Prelude.{◌≡◌, ◌<◌, ◌↔◌, ◌++◌, ◌∷◌, ℕ, [], length, slice_get};
     ghost use Rattle.std.specs.Prelude.{IfOk, IsSome, IsTrue, true, false};
     ghost use Rattle.trees.specs.Claimed.{claimed};
@@ -33,12 +33,12 @@ impl Rows {
     ghost use Rattle.replay.specs.Sides.{Keeps};
 
     /// No rows.
-    pub(crate) fn new(alloc: Global) -> Rows
+    pub(crate) fn new(alloc: Global) -> JudgedRows
         ensures meant { meant_by result.judge ≡ [] }
         ensures roots { result.roots.items ≡ [] }
         ensures keeps { Keeps result.judge.sides result.judge.store }
     {
-        Rows {
+        JudgedRows {
             judge: RowJudge::new(alloc),
             roots: Vec::new(alloc),
         }

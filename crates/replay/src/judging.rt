@@ -6,7 +6,7 @@ ghost use Rattle.replay.specs.Sides.{Keeps};
 ghost use Rattle.replay.specs.Shown.{JudgedIs, RootsAre};
 ghost use Rattle.replay.specs.Verdicts.{VerdictIs};
 
-use crate::judged_rows::Rows;
+use crate::judged_rows::JudgedRows;
 use deriv_file::{Next, RowReader};
 use std::alloc::{AllocError, Global};
 
@@ -25,11 +25,11 @@ pub struct Judged {
     /// Whether every row is right.
     pub verdict: Verdict,
     /// The rows that are, up to the first that is not, with the roots among them.
-    pub rows: Rows,
+    pub rows: JudgedRows,
 }
 
 /// Judges the rows of a file one after the other, until one is not right.
-fn judge_rows(alloc: Global, bytes: &[u8], rows: &mut Rows) -> Result<Verdict, AllocError>
+fn judge_rows(alloc: Global, bytes: &[u8], rows: &mut JudgedRows) -> Result<Verdict, AllocError>
     requires none { meant_by rows.old.judge ≡ [] }
     requires no_roots { rows.old.roots.items ≡ [] }
     requires keeps { Keeps rows.old.judge.sides rows.old.judge.store }
@@ -60,7 +60,7 @@ pub fn judge(alloc: Global, bytes: &[u8]) -> Result<Judged, AllocError>
     ensures verdict { IfOk result (λ judged. VerdictIs bytes.now judged.verdict) }
     ensures roots { IfOk result (RootsAre bytes.now) }
 {
-    let mut rows = Rows::new(alloc);
+    let mut rows = JudgedRows::new(alloc);
     let verdict = judge_rows(alloc, bytes, &mut rows)?;
     Ok(Judged { verdict, rows })
 }

@@ -22,5 +22,5 @@ mod row_judge;
 mod row_maker;
 mod thing;
 
-pub use judged_rows::Rows;
+pub use judged_rows::JudgedRows;
 pub use judging::{Judged, Verdict, judge};

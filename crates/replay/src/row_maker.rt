@@ -3,17 +3,17 @@
 
 ghost use Rattle.replay.specs.Shown.{rows_mean};
 
-use crate::judged_rows::Rows;
-use rows::{CtxId, CtxRow, Maker, Row, SubId, SubRow, TermId, TermRow};
+use crate::judged_rows::JudgedRows;
+use rows::{CtxId, CtxRow, Maker, Row, Rows, SubId, SubRow, TermId, TermRow};
 use std::alloc::AllocError;
 use trees::Op;
 use weakenings::{passed, shift_of_both, undone};
 
-impl rows::Rows for Rows {
+impl Rows for JudgedRows {
     ghost means = { rows_mean };
 }
 
-impl Maker for Rows {
+impl Maker for JudgedRows {
     ghost spare = { λ r. 0 };
 
     fn var(&mut self, index: u32) -> Result<u64, AllocError> {

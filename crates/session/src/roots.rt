@@ -9,13 +9,13 @@ ghost use Rattle.session.specs.Modules.{Compares};
 ghost use Rattle.session.specs.Loaded.{stated_by};
 
 use judgement_rows::claims_of;
-use replay::Rows;
+use replay::JudgedRows;
 use resolver::CodeDef;
 use std::alloc::{AllocError, Global};
 use theory::Claim;
 
 /// The claims of the roots of a file, in order.
-fn root_claims(alloc: Global, rows: &Rows) -> Result<Vec<Claim>, AllocError>
+fn root_claims(alloc: Global, rows: &JudgedRows) -> Result<Vec<Claim>, AllocError>
     ensures { IfOk result (λ cs.
         map (claimed (rows_mean rows.now)) cs.items ≡ map Some (root_judgements rows.now)) }
 {
@@ -29,7 +29,7 @@ fn root_claims(alloc: Global, rows: &Rows) -> Result<Vec<Claim>, AllocError>
 /// The first place where two claims are not the same judgement, or where there are more of the ones
 /// than of the others, if there is one.
 fn first_difference(
-    rows: &mut Rows,
+    rows: &mut JudgedRows,
     roots: &[Claim],
     claims: &[Claim],
 ) -> Result<Option<u64>, AllocError>
@@ -51,7 +51,11 @@ fn first_difference(
 }
 
 /// The first root that is not the judgement of the definitions at its place, as below.
-fn first_other(alloc: Global, rows: &mut Rows, defs: &[CodeDef]) -> Result<Option<u64>, AllocError>
+fn first_other(
+    alloc: Global,
+    rows: &mut JudgedRows,
+    defs: &[CodeDef],
+) -> Result<Option<u64>, AllocError>
     ensures { IfOk result
         (Compares (root_judgements rows.old) (judgements_of (stated_by defs.now))) }
 {
@@ -64,7 +68,7 @@ fn first_other(alloc: Global, rows: &mut Rows, defs: &[CodeDef]) -> Result<Optio
 /// there are more of the ones than of the others, if there is one.
 pub(crate) fn first_other_root(
     alloc: Global,
-    mut rows: Rows,
+    mut rows: JudgedRows,
     defs: &[CodeDef],
 ) -> Result<Option<u64>, AllocError>
     ensures { IfOk result

@@ -1,7 +1,7 @@
 use Rattle.std.proofs.Common.{◌∷◌, []}
 use Rattle.replay.specs.Meant.{meant_by}
 use Rattle.replay.proofs.RootLaws.{nodes_after, nodes_kept}
-use Rattle.replay.proofs.judged_rows.Rows.judge_row.Goals as goal
+use Rattle.replay.proofs.judged_rows.JudgedRows.judge_row.Goals as goal
 
 pub invariant_of-self-in-Root : goal.invariant_of-self-in-Root
 invariant_of-self-in-Root c =

@@ -1,7 +1,7 @@
 use Rattle.std.proofs.Common.{◌≡◌, ◌∙◌, sym, subst, Some, IsSome}
 use Rattle.trees.specs.Trees.{Var}
 use Rattle.trees.specs.Things.{ATree, both, instance_of}
-use Rattle.replay.proofs.row_maker.RowsMaker.instance.Goals as goal
+use Rattle.replay.proofs.row_maker.JudgedRowsMaker.instance.Goals as goal
 
 pub undone-requires : goal.undone-requires
 undone-requires c = subst (λ f. IsSome (both instance_of (f c.args.term) (f c.args.sub))) (sym c.store.ensures) c.requires

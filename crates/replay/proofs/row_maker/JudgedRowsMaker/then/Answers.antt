@@ -4,7 +4,7 @@ use Rattle.trees.specs.Things.{ASubst, both, then_of}
 use Rattle.rows.specs.Views.{IsSubst}
 use Rattle.replay.specs.Shown.{rows_mean}
 use Rattle.replay.proofs.MakerLaws.{shift_is_subst}
-use Rattle.replay.proofs.row_maker.RowsMaker.then.Goals as goal
+use Rattle.replay.proofs.row_maker.JudgedRowsMaker.then.Goals as goal
 
 pub shift_of_both-requires-clause-first : goal.shift_of_both-requires-clause-first
 shift_of_both-requires-clause-first c =

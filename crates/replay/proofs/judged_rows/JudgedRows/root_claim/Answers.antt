@@ -2,7 +2,7 @@ use Rattle.std.proofs.Common.{◌<◌, length, arith, refl, sym, ◌∙◌}
 use Rattle.std.proofs.lemmas.Option.{slice_get_read}
 use Rattle.replay.specs.Meant.{meant_by}
 use Rattle.replay.proofs.RootLaws.{roots_counted, root_there, root_is}
-use Rattle.replay.proofs.judged_rows.Rows.root_claim.Goals as goal
+use Rattle.replay.proofs.judged_rows.JudgedRows.root_claim.Goals as goal
 
 pub index-requires : goal.index-requires
 index-requires c =

@@ -1,7 +1,7 @@
 use Rattle.std.proofs.Common.{arith}
 use Rattle.replay.specs.Meant.{meant_by}
 use Rattle.replay.proofs.RootLaws.{roots_counted}
-use Rattle.replay.proofs.judged_rows.Rows.root_count.Goals as goal
+use Rattle.replay.proofs.judged_rows.JudgedRows.root_count.Goals as goal
 
 pub returns : goal.returns
 returns c =
