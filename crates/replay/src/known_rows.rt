@@ -33,7 +33,7 @@ impl KnownRows {
         for number in self.looked_at..filed.len() {
             if let Filed::Thing(at) = filed.row(number as u64) {
                 if let Some(row) = store.row_at(at) {
-                    self.keep(row, at)?;
+                    self.keep(row.digest(), at)?;
                 }
             }
         }
@@ -41,20 +41,20 @@ impl KnownRows {
         Ok(())
     }
 
-    /// Keeps the number that a row has.
-    pub fn keep(&mut self, row: Row<'_>, at: u64) -> Result<(), AllocError> {
-        match self.numbers.insert(row.digest(), at) {
+    /// Keeps the number of a row of this digest.
+    pub fn keep(&mut self, digest: u64, at: u64) -> Result<(), AllocError> {
+        match self.numbers.insert(digest, at) {
             Ok(_) => Ok(()),
             Err(_) => Err(AllocError),
         }
     }
 
-    /// A row of the store that reads as this one, if one is known.
-    pub fn find(&self, store: &RowStore, row: Row<'_>) -> Option<u64>
+    /// A row of the store that reads as this one, of this digest, if one is known.
+    pub fn find(&self, store: &RowStore, digest: u64, row: Row<'_>) -> Option<u64>
         ensures { let f = store_means store.now in
             IfSome result (λ at. f at ≡ row_meaning f row.entry) }
     {
-        let at = *self.numbers.get(&row.digest())?;
+        let at = *self.numbers.get(&digest)?;
         if store.row_at(at)?.reads_as(row) {
             Some(at)
         } else {

@@ -178,11 +178,12 @@ impl RowJudge {
         ensures meant { meant_by self.new ≡ meant_by self.old }
     {
         self.known.look(&self.store, &self.filed)?;
-        match self.known.find(&self.store, row) {
+        let digest = row.digest();
+        match self.known.find(&self.store, digest, row) {
             Some(at) => Ok(at),
             None => {
                 let at = self.make_new(row)?;
-                self.known.keep(row, at)?;
+                self.known.keep(digest, at)?;
                 Ok(at)
             }
         }
