@@ -15,7 +15,7 @@ ROOT = pathlib.Path(__file__).resolve().parent.parent
 
 # The recipes of each crate, and the earlier ones that a recipe may name, in the order of its proof.
 CRATES = {
-    "kan_fill": ["fill", "contr", "pres", "equiv"],
+    "kan_fill": ["fill", "contr", "pres", "ext"],
     "structural": [
         "lift_var", "lift_name", "lift_face", "swap_face", "swap_faces", "merge_faces",
         "restrict_ty0", "restrict_ty1", "restrict_tm0", "restrict_tm1", "cover_ty", "cover_tm",
@@ -41,12 +41,12 @@ CRATES = {
     "presupposed_tests": ["conversions", "pushed_entry", "made_and_used", "equal_numbers"],
     "book_tests": ["two", "successor", "constant", "twice", "variables"],
     "kan_tests": [
-        "fill_faces", "fill_lines", "contr_variable", "pres_numbers", "equiv_variable",
-        "equiv_numbers", "fill_premises",
+        "fill_faces", "fill_lines", "contr_variable", "pres_numbers", "ext_variable",
+        "ext_numbers", "fill_premises",
     ],
     "behind_tests": ["glued"],
 }
-EARLIER = {"pres": ["fill"], "equiv": ["contr"]}
+EARLIER = {"pres": ["fill"], "ext": ["contr"]}
 EARLIER |= {name: CRATES["kan_fill"] for name in CRATES["kan_tests"]}
 
 # The crates whose tables read the parts of a recipe from its premises, where these name them, so

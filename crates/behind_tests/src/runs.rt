@@ -12,8 +12,8 @@ use crate::glued::{GLUED, GLUED_GIVES};
 use book::{Book, Few};
 use kan_calls::Kan;
 use kan_tests::{
-    CONTR_VARIABLE, CONTR_VARIABLE_GIVES, EQUIV_NUMBERS, EQUIV_NUMBERS_GIVES, EQUIV_VARIABLE,
-    EQUIV_VARIABLE_GIVES, FILL_FACES, FILL_FACES_GIVES, FILL_LINES, FILL_LINES_GIVES, PRES_NUMBERS,
+    CONTR_VARIABLE, CONTR_VARIABLE_GIVES, EXT_NUMBERS, EXT_NUMBERS_GIVES, EXT_VARIABLE,
+    EXT_VARIABLE_GIVES, FILL_FACES, FILL_FACES_GIVES, FILL_LINES, FILL_LINES_GIVES, PRES_NUMBERS,
     PRES_NUMBERS_GIVES, contraction_is_derived, extension_is_derived, fillings_are_derived,
     identity_is_equivalence, preservation_is_derived,
 };
@@ -65,8 +65,8 @@ pub fn derive_whole(book: &mut Book, whole: Whole) -> Result<Few, AllocError> {
         Whole::Lines => Ok(given(book, FILL_LINES, FILL_LINES_GIVES)?),
         Whole::Contraction => Ok(given(book, CONTR_VARIABLE, CONTR_VARIABLE_GIVES)?),
         Whole::Preservation => Ok(given(book, PRES_NUMBERS, PRES_NUMBERS_GIVES)?),
-        Whole::Extension => Ok(given(book, EQUIV_VARIABLE, EQUIV_VARIABLE_GIVES)?),
-        Whole::Identity => Ok(given(book, EQUIV_NUMBERS, EQUIV_NUMBERS_GIVES)?),
+        Whole::Extension => Ok(given(book, EXT_VARIABLE, EXT_VARIABLE_GIVES)?),
+        Whole::Identity => Ok(given(book, EXT_NUMBERS, EXT_NUMBERS_GIVES)?),
         Whole::Glue => Ok(given(book, GLUED, GLUED_GIVES)?),
     }
 }

@@ -38,6 +38,18 @@ pub may-run-at : (ss earlier : List Statement) (s : Statement) (b : Contents) (r
 may-run-at ss earlier s b rows outs parts premises k gives at d h =
     may-run-same ss earlier s b rows outs parts premises k gives d h (at-number ss s h.statement k at h.is)
 
+-- the recipe of that number, as one of others
+pub may-derive-at : (ss ts : List Statement) (s : Statement) (b : Contents) (k m : ℕ) (parts premises : List ℕ) (gives : List Judgement) → slice_get ss k ≡ Some s → slice_get ts m ≡ Some s → MayDerive ss b k parts premises gives → MayDerive ts b m parts premises gives
+may-derive-at ss ts s b k m parts premises gives at there h = record {
+  statement = h.statement;
+  things = h.things;
+  is = there ∙ sym at ∙ h.is;
+  parts_are = h.parts_are;
+  premises_are = h.premises_are;
+  may_stand = h.may_stand;
+  given = h.given;
+}
+
 -- where there is one earlier recipe
 
 only-one : (s t : Statement) (k : ℕ) → slice_get (s ∷ []) k ≡ Some t → s ≡ t

@@ -1,5 +1,5 @@
 -- When a derived rule may be used over a book, and what its use gives.
-use Rattle.std.specs.Prelude.{◌≡◌, ℕ, List, ◌∷◌, Some}
+use Rattle.std.specs.Prelude.{◌≡◌, ℕ, List, [], ◌∷◌, Some}
 use Rattle.trees.specs.Things.{Thing, meanings}
 use Rattle.book.specs.Contents.{Contents}
 use Rattle.book.specs.Shown.{book_means, book_concludes}
@@ -8,6 +8,7 @@ use Rattle.book.specs.declared.kernel.NodeId.{NodeId}
 use Rattle.recipes.specs.Derivations.{MayStandAt, premises_at, conclusions_at}
 use Rattle.kan_calls.specs.declared.calls.Derive.{Derive}
 use Rattle.kan_calls.specs.declared.calls.Derived.{Derived}
+use Rattle.kan_calls.specs.declared.calls.TheConstants.{MOST_ADDED}
 
 -- the parts mean things at which the statement may stand, and the node of the context and the
 -- premises conclude what it wants there
@@ -27,3 +28,15 @@ Gives s old new ctx step derived =
     (things : List Thing) → MayCall s old ctx.0 step.parts step.premises things
     → meanings (book_concludes new) (derived.typing.0 ∷ derived.equations)
     ≡ Some (conclusions_at s things)
+
+-- the most rows and nodes that filling adds to a book
+abbrev pub most_of_filling : ℕ
+most_of_filling = 3198
+
+-- that contraction adds
+abbrev pub most_of_contraction : ℕ
+most_of_contraction = 412
+
+-- that each adds, of filling, contraction, preservation and extension
+abbrev pub most_of_each : List ℕ
+most_of_each = most_of_filling ∷ most_of_contraction ∷ MOST_ADDED ∷ 692 ∷ []

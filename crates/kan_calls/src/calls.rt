@@ -7,21 +7,21 @@ ghost use Rattle.trees.specs.Things.{meanings};
 ghost use Rattle.book.specs.Shown.{book_concludes, Extends};
 ghost use Rattle.recipe_runner.specs.Running.{MayRun, most_added_by, most_made_by};
 ghost use Rattle.kan_fill.specs.Statements.{fill_statement, contr_statement, pres_statement};
-ghost use Rattle.kan_fill.specs.Statements.{equiv_statement};
+ghost use Rattle.kan_fill.specs.Statements.{ext_statement};
 ghost use Rattle.kan_calls.specs.Calls.{MayUse, Gives};
 
 use crate::earlier::{Contraction, Filling};
 use book::{Book, Few, NodeId};
 use kan_fill::{
-    CONTR, CONTR_GIVES, EQUIV, EQUIV_GIVES, FILL, FILL_GIVES, PRES, PRES_GIVES,
-    contraction_is_derived, extension_is_derived, filling_is_derived, preservation_is_derived,
+    CONTR, CONTR_GIVES, EXT, EXT_GIVES, FILL, FILL_GIVES, PRES, PRES_GIVES, contraction_is_derived,
+    extension_is_derived, filling_is_derived, preservation_is_derived,
 };
 use recipe_runner::{Earlier, NoRecipes, run};
 use recipes::Row;
 use std::alloc::AllocError;
 
 /// The most rows and nodes that a call adds to a book: preservation, with the filling in it.
-pub const ROWS: u64 = 4805;
+pub const MOST_ADDED: u64 = 4805;
 
 /// A use of a derived rule: its parts are rows, and its premises past that of the context are
 /// nodes.
@@ -106,8 +106,8 @@ fn call<E: Earlier>(
 /// Only where memory runs out that the spare does not cover.
 pub fn fill(book: &mut Book, ctx: NodeId, step: &Derive) -> Result<Derived, AllocError>
     requires { MayUse fill_statement book.old ctx step.now }
-    ensures covered { ROWS ≤ book.old.spare → IsOk result }
-    ensures spends { book.old.spare ≤ book.new.spare + ROWS }
+    ensures covered { MOST_ADDED ≤ book.old.spare → IsOk result }
+    ensures spends { book.old.spare ≤ book.new.spare + MOST_ADDED }
     ensures extends { Extends book.old book.new }
     ensures gives { IfOk result (Gives fill_statement book.old book.new ctx step.now) }
 {
@@ -122,8 +122,8 @@ pub fn fill(book: &mut Book, ctx: NodeId, step: &Derive) -> Result<Derived, Allo
 /// Only where memory runs out that the spare does not cover.
 pub fn contr(book: &mut Book, ctx: NodeId, step: &Derive) -> Result<Derived, AllocError>
     requires { MayUse contr_statement book.old ctx step.now }
-    ensures covered { ROWS ≤ book.old.spare → IsOk result }
-    ensures spends { book.old.spare ≤ book.new.spare + ROWS }
+    ensures covered { MOST_ADDED ≤ book.old.spare → IsOk result }
+    ensures spends { book.old.spare ≤ book.new.spare + MOST_ADDED }
     ensures extends { Extends book.old book.new }
     ensures gives { IfOk result (Gives contr_statement book.old book.new ctx step.now) }
 {
@@ -139,8 +139,8 @@ pub fn contr(book: &mut Book, ctx: NodeId, step: &Derive) -> Result<Derived, All
 /// Only where memory runs out that the spare does not cover.
 pub fn pres(book: &mut Book, ctx: NodeId, step: &Derive) -> Result<Derived, AllocError>
     requires { MayUse pres_statement book.old ctx step.now }
-    ensures covered { ROWS ≤ book.old.spare → IsOk result }
-    ensures spends { book.old.spare ≤ book.new.spare + ROWS }
+    ensures covered { MOST_ADDED ≤ book.old.spare → IsOk result }
+    ensures spends { book.old.spare ≤ book.new.spare + MOST_ADDED }
     ensures extends { Extends book.old book.new }
     ensures gives { IfOk result (Gives pres_statement book.old book.new ctx step.now) }
 {
@@ -153,13 +153,13 @@ pub fn pres(book: &mut Book, ctx: NodeId, step: &Derive) -> Result<Derived, Allo
 ///
 /// # Errors
 /// Only where memory runs out that the spare does not cover.
-pub fn equiv(book: &mut Book, ctx: NodeId, step: &Derive) -> Result<Derived, AllocError>
-    requires { MayUse equiv_statement book.old ctx step.now }
-    ensures covered { ROWS ≤ book.old.spare → IsOk result }
-    ensures spends { book.old.spare ≤ book.new.spare + ROWS }
+pub fn ext(book: &mut Book, ctx: NodeId, step: &Derive) -> Result<Derived, AllocError>
+    requires { MayUse ext_statement book.old ctx step.now }
+    ensures covered { MOST_ADDED ≤ book.old.spare → IsOk result }
+    ensures spends { book.old.spare ≤ book.new.spare + MOST_ADDED }
     ensures extends { Extends book.old book.new }
-    ensures gives { IfOk result (Gives equiv_statement book.old book.new ctx step.now) }
+    ensures gives { IfOk result (Gives ext_statement book.old book.new ctx step.now) }
 {
     extension_is_derived();
-    Ok(call(book, &Contraction, EQUIV, EQUIV_GIVES, ctx, step)?)
+    Ok(call(book, &Contraction, EXT, EXT_GIVES, ctx, step)?)
 }

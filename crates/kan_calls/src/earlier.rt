@@ -2,6 +2,7 @@
 
 ghost use Rattle.kan_fill.specs.Statements.{fill_statement, contr_statement};
 ghost use Rattle.std.specs.Prelude.{[], ◌∷◌};
+ghost use Rattle.kan_calls.specs.Calls.{most_of_filling, most_of_contraction};
 
 use book::{Book, Few};
 use kan_fill::{CONTR, CONTR_GIVES, FILL, FILL_GIVES, contraction_is_derived, filling_is_derived};
@@ -14,7 +15,7 @@ pub struct Filling;
 impl Earlier for Filling {
     ghost states = { λ s. fill_statement ∷ [] };
 
-    ghost most = { λ s k. 3198 };
+    ghost most = { λ s k. most_of_filling };
 
     fn count_parts(&self, _recipe: u16) -> usize {
         6
@@ -42,7 +43,7 @@ pub struct Contraction;
 impl Earlier for Contraction {
     ghost states = { λ s. contr_statement ∷ [] };
 
-    ghost most = { λ s k. 412 };
+    ghost most = { λ s k. most_of_contraction };
 
     fn count_parts(&self, _recipe: u16) -> usize {
         5

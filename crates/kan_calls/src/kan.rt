@@ -2,15 +2,13 @@
 
 ghost use Rattle.std.specs.Prelude.{[], ◌∷◌, slice_index};
 ghost use Rattle.kan_fill.specs.Statements.{fill_statement, contr_statement, pres_statement};
-ghost use Rattle.kan_fill.specs.Statements.{equiv_statement};
+ghost use Rattle.kan_fill.specs.Statements.{ext_statement};
+ghost use Rattle.kan_calls.specs.Calls.{most_of_each};
 
 use crate::earlier::{Contraction, Filling};
 use book::{Book, Few};
-use kan_fill::{
-    CONTR, CONTR_GIVES, EQUIV, EQUIV_GIVES, FILL, FILL_GIVES, PRES, PRES_GIVES,
-    contraction_is_derived, extension_is_derived, filling_is_derived, preservation_is_derived,
-};
-use recipe_runner::{Earlier, NoRecipes, run};
+use kan_fill::{EXT, EXT_GIVES, PRES, PRES_GIVES, extension_is_derived, preservation_is_derived};
+use recipe_runner::{Earlier, run};
 use std::alloc::AllocError;
 
 /// Filling, contraction, preservation and extension, by the numbers 0 to 3.
@@ -18,14 +16,14 @@ pub struct Kan;
 
 impl Earlier for Kan {
     ghost states = { λ s.
-        fill_statement ∷ contr_statement ∷ pres_statement ∷ equiv_statement ∷ [] };
+        fill_statement ∷ contr_statement ∷ pres_statement ∷ ext_statement ∷ [] };
 
-    ghost most = { λ s k. slice_index (3198 ∷ 412 ∷ 4805 ∷ 692 ∷ []) k };
+    ghost most = { λ s k. slice_index most_of_each k };
 
     fn count_parts(&self, recipe: u16) -> usize {
         match recipe {
-            0 => 6,
-            1 => 5,
+            0 => Filling.count_parts(0),
+            1 => Contraction.count_parts(0),
             2 => 7,
             _ => 7,
         }
@@ -33,8 +31,8 @@ impl Earlier for Kan {
 
     fn count_premises(&self, recipe: u16) -> usize {
         match recipe {
-            0 => 5,
-            1 => 4,
+            0 => Filling.count_premises(0),
+            1 => Contraction.count_premises(0),
             2 => 7,
             _ => 6,
         }
@@ -48,21 +46,15 @@ impl Earlier for Kan {
         premises: &[u64],
     ) -> Result<Few, AllocError> {
         match recipe {
-            0 => {
-                filling_is_derived();
-                Ok(run(book, &NoRecipes, FILL, FILL_GIVES, parts, premises)?)
-            }
-            1 => {
-                contraction_is_derived();
-                Ok(run(book, &NoRecipes, CONTR, CONTR_GIVES, parts, premises)?)
-            }
+            0 => Ok(Filling.derive(book, 0, parts, premises)?),
+            1 => Ok(Contraction.derive(book, 0, parts, premises)?),
             2 => {
                 preservation_is_derived();
                 Ok(run(book, &Filling, PRES, PRES_GIVES, parts, premises)?)
             }
             _ => {
                 extension_is_derived();
-                Ok(run(book, &Contraction, EQUIV, EQUIV_GIVES, parts, premises)?)
+                Ok(run(book, &Contraction, EXT, EXT_GIVES, parts, premises)?)
             }
         }
     }

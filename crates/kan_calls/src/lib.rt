@@ -12,6 +12,6 @@ mod calls;
 mod earlier;
 mod kan;
 
-pub use calls::{Derive, Derived, ROWS, contr, equiv, fill, pres};
+pub use calls::{Derive, Derived, MOST_ADDED, contr, ext, fill, pres};
 pub use earlier::{Contraction, Filling};
 pub use kan::Kan;

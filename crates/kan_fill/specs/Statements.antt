@@ -98,11 +98,11 @@ abbrev pub pres_statement : Statement
 pres_statement = stated pres_kinds (preservation patterns)
 
 -- the parts of an extension: `G T A w p z a`
-abbrev pub equiv_kinds : List PartKind
-equiv_kinds = Context ∷ Term ∷ Term ∷ Term ∷ Term ∷ Term ∷ Term ∷ []
+abbrev pub ext_kinds : List PartKind
+ext_kinds = Context ∷ Term ∷ Term ∷ Term ∷ Term ∷ Term ∷ Term ∷ []
 
 -- `Ext(T, A, w, p, z, a)` is in the fiber of the equivalence w at a, and is z where p is.
-abbrev pub extension : (L : Language) → Stated L equiv_kinds
+abbrev pub extension : (L : Language) → Stated L ext_kinds
 extension L = λ G T A w p z a.
     let fibers = fiber L T A (fst L w) a in
     let extended = ext L T A w p z a in
@@ -119,5 +119,5 @@ extension L = λ G T A w p z a.
       gives = Tm G extended fibers ∷ TmEq (L.with_face G p) extended z fibers ∷ [];
     }
 
-abbrev pub equiv_statement : Statement
-equiv_statement = stated equiv_kinds (extension patterns)
+abbrev pub ext_statement : Statement
+ext_statement = stated ext_kinds (extension patterns)

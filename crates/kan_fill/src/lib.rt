@@ -17,7 +17,7 @@ ghost use Rattle.trees.specs.Trees.{Tree};
 ghost use Rattle.trees.specs.Judgements.{Context, trees};
 ghost use Rattle.trees.specs.Things.{AContext, ATree};
 ghost use Rattle.kan_fill.specs.Statements.{fill_statement, contr_statement, pres_statement};
-ghost use Rattle.kan_fill.specs.Statements.{equiv_statement};
+ghost use Rattle.kan_fill.specs.Statements.{ext_statement};
 ghost use Rattle.kan_fill.specs.Statements.{filling, contraction, preservation, extension};
 
 /// The rows of a table, each on a line of its own however long.
@@ -26,12 +26,12 @@ macro_rules! table {
 }
 
 mod contr;
-mod equiv;
+mod ext;
 mod fill;
 mod pres;
 
 pub use contr::{CONTR, CONTR_GIVES};
-pub use equiv::{EQUIV, EQUIV_GIVES};
+pub use ext::{EXT, EXT_GIVES};
 pub use fill::{FILL, FILL_GIVES};
 pub use pres::{PRES, PRES_GIVES};
 
@@ -52,7 +52,7 @@ pub fn preservation_is_derived()
 
 /// Extension, by contraction.
 pub fn extension_is_derived()
-    ensures { Derives (contr_statement ∷ []) equiv_statement EQUIV.now EQUIV_GIVES.now }
+    ensures { Derives (contr_statement ∷ []) ext_statement EXT.now EXT_GIVES.now }
 {}
 
 /// At trees the statements are what their definitions say there.
@@ -66,7 +66,7 @@ pub fn statements_at_trees()
     ensures preservation { (G : Context) (T A f p t t0 : Tree) → StatesAt pres_statement
         (AContext G ∷ ATree T ∷ ATree A ∷ ATree f ∷ ATree p ∷ ATree t ∷ ATree t0 ∷ [])
         (preservation trees G T A f p t t0) }
-    ensures extension { (G : Context) (T A w p z a : Tree) → StatesAt equiv_statement
+    ensures extension { (G : Context) (T A w p z a : Tree) → StatesAt ext_statement
         (AContext G ∷ ATree T ∷ ATree A ∷ ATree w ∷ ATree p ∷ ATree z ∷ ATree a ∷ [])
         (extension trees G T A w p z a) }
 {}

@@ -12,7 +12,7 @@ use Rattle.trees.proofs.Meanings.{meanings-length, meanings-cons, meanings-at, m
 use Rattle.rules.specs.Table.{eq0, lam, nat, zero}
 use Rattle.book.specs.Contents.{Contents}
 use Rattle.book.specs.Shown.{book_means, book_nodes, book_concludes, Extends}
-use Rattle.kan_fill.specs.Statements.{fill_statement, contr_statement, pres_statement, equiv_statement}
+use Rattle.kan_fill.specs.Statements.{fill_statement, contr_statement, pres_statement, ext_statement}
 use Rattle.kan_calls.specs.Calls.{MayCall}
 use Rattle.kan_tests.specs.Fillings.{premises_statement, filling_parts, moved_statement, preservation_parts}
 use Rattle.kan_tests.specs.Fillings.{contracted_statement, contraction_parts, contractible}
@@ -116,12 +116,12 @@ may-contract b ctx parts premises e f = record { parts_are = e; premises_are = f
 pub raised-parts-are : (f : Meanings) (ctx ty equivalence face element point : ℕ) → f ctx ≡ Some (AContext (of_fiber trees)) → f ty ≡ Some (ATree (nat trees)) → f equivalence ≡ Some (ATree (Var 1)) → f face ≡ Some (ATree (eq0 trees (Var 2))) → f element ≡ Some (ATree (Var 0)) → f point ≡ Some (ATree (zero trees)) → meanings f (ctx ∷ ty ∷ ty ∷ equivalence ∷ face ∷ element ∷ point ∷ []) ≡ Some extension_parts
 raised-parts-are f ctx ty equivalence face element point e1 e2 e3 e4 e5 e6 = rw (e1, e2, e3, e4, e5, e6) refl
 
-extension-stands : MayStandAt equiv_statement extension_parts
+extension-stands : MayStandAt ext_statement extension_parts
 extension-stands = record {
   kinds = refl;
   shifts = parts-fit (of_fiber trees) (nat trees ∷ nat trees ∷ Var 1 ∷ eq0 trees (Var 2) ∷ Var 0 ∷ zero trees ∷ []);
   sides = All-cons SideHolds (IsFace (of_fiber trees) (eq0 trees (Var 2))) [] refl (All-nil SideHolds);
 }
 
-pub may-extend : (b : Contents) (ctx : ℕ) (parts premises : List ℕ) → meanings (book_means b) parts ≡ Some extension_parts → meanings (book_concludes b) (ctx ∷ premises) ≡ Some (conclusions_at raised_statement []) → MayCall equiv_statement b ctx parts premises extension_parts
+pub may-extend : (b : Contents) (ctx : ℕ) (parts premises : List ℕ) → meanings (book_means b) parts ≡ Some extension_parts → meanings (book_concludes b) (ctx ∷ premises) ≡ Some (conclusions_at raised_statement []) → MayCall ext_statement b ctx parts premises extension_parts
 may-extend b ctx parts premises e f = record { parts_are = e; premises_are = f; may_stand = extension-stands }

@@ -15,7 +15,7 @@ use Rattle.book.specs.Shown.{book_concludes}
 use Rattle.kan_calls.specs.declared.calls.Derived.{Derived}
 use Rattle.kan_fill.specs.Statements.{filling, contraction, preservation, extension}
 use Rattle.kan_fill.specs.Statements.{fill_statement, contr_statement, pres_statement}
-use Rattle.kan_fill.specs.Statements.{equiv_statement}
+use Rattle.kan_fill.specs.Statements.{ext_statement}
 use Rattle.recipes.specs.declared.row.Row.{Row}
 use Rattle.recipes.specs.Statements.{Claimed, Statement, stated}
 
@@ -227,7 +227,7 @@ identity_statement = stated none (along_identity patterns)
 
 -- the earlier recipes that these name
 abbrev pub earlier : List Statement
-earlier = fill_statement ∷ contr_statement ∷ pres_statement ∷ equiv_statement ∷ []
+earlier = fill_statement ∷ contr_statement ∷ pres_statement ∷ ext_statement ∷ []
 
 abbrev pub premises_statement : Statement
 premises_statement = stated none (premises patterns)

@@ -6,7 +6,7 @@ ghost use Rattle.kan_tests.specs.Fillings.{given_by};
 use crate::{contraction, extension, filling, preservation};
 use book::{Book, NodeId};
 use book_tests::judged;
-use kan_calls::{Derived, ROWS, contr, equiv, fill, pres};
+use kan_calls::{Derived, MOST_ADDED, contr, ext, fill, pres};
 use replay::Verdict;
 use std::alloc::{AllocError, Global};
 use std::process::Abort;
@@ -47,7 +47,7 @@ fn filled(rt: &impl Abort, book: &mut Book) -> Result<Derived, AllocError>
     ensures { IfOk result (λ derived. IsSome (given_by book.new derived)) }
 {
     let call = filling(book)?;
-    book.reserve(ROWS)?;
+    book.reserve(MOST_ADDED)?;
     Ok(within(rt, fill(book, call.ctx, &call.step))?)
 }
 
@@ -55,7 +55,7 @@ fn contracted(rt: &impl Abort, book: &mut Book) -> Result<Derived, AllocError>
     ensures { IfOk result (λ derived. IsSome (given_by book.new derived)) }
 {
     let call = contraction(book)?;
-    book.reserve(ROWS)?;
+    book.reserve(MOST_ADDED)?;
     Ok(within(rt, contr(book, call.ctx, &call.step))?)
 }
 
@@ -63,7 +63,7 @@ fn preserved(rt: &impl Abort, book: &mut Book) -> Result<Derived, AllocError>
     ensures { IfOk result (λ derived. IsSome (given_by book.new derived)) }
 {
     let call = preservation(book)?;
-    book.reserve(ROWS)?;
+    book.reserve(MOST_ADDED)?;
     Ok(within(rt, pres(book, call.ctx, &call.step))?)
 }
 
@@ -71,8 +71,8 @@ fn extended(rt: &impl Abort, book: &mut Book) -> Result<Derived, AllocError>
     ensures { IfOk result (λ derived. IsSome (given_by book.new derived)) }
 {
     let call = extension(book)?;
-    book.reserve(ROWS)?;
-    Ok(within(rt, equiv(book, call.ctx, &call.step))?)
+    book.reserve(MOST_ADDED)?;
+    Ok(within(rt, ext(book, call.ctx, &call.step))?)
 }
 
 /// What a call of the rule gives.

@@ -8,16 +8,16 @@ ghost use Rattle.book.specs.Contents.{Contents};
 ghost use Rattle.book.specs.Shown.{book_means, book_concludes, Extends};
 ghost use Rattle.recipe_runner.specs.Running.{MayRun, most_made_by};
 ghost use Rattle.kan_fill.specs.Statements.{fill_statement, contr_statement, pres_statement};
-ghost use Rattle.kan_fill.specs.Statements.{equiv_statement};
+ghost use Rattle.kan_fill.specs.Statements.{ext_statement};
 ghost use Rattle.kan_calls.specs.Calls.{MayCall};
 ghost use Rattle.kan_tests.specs.Fillings.{earlier, filling_parts, contraction_parts, before_last};
 ghost use Rattle.kan_tests.specs.Fillings.{preservation_parts, extension_parts};
 ghost use Rattle.kan_tests.specs.Fillings.{contractible, of_fiber};
 
 use crate::{
-    CONTR_VARIABLE, CONTR_VARIABLE_PREMISES, EQUIV_VARIABLE, EQUIV_VARIABLE_PREMISES,
-    FILL_PREMISES, FILL_PREMISES_GIVES, PRES_NUMBERS, PRES_NUMBERS_PREMISES,
-    called_premises_are_derived, premises_are_derived,
+    CONTR_VARIABLE, CONTR_VARIABLE_PREMISES, EXT_VARIABLE, EXT_VARIABLE_PREMISES, FILL_PREMISES,
+    FILL_PREMISES_GIVES, PRES_NUMBERS, PRES_NUMBERS_PREMISES, called_premises_are_derived,
+    premises_are_derived,
 };
 use book::{Book, Few, NodeId};
 use kan_calls::{Derive, Kan};
@@ -217,11 +217,11 @@ fn raised_parts(book: &mut Book, ctx: u64) -> Result<Few, AllocError>
 /// # Errors
 /// Only to be out of memory.
 pub fn extension(book: &mut Book) -> Result<Call, AllocError>
-    ensures { IfOk result (λ call. MayCall equiv_statement book.new call.ctx.0
+    ensures { IfOk result (λ call. MayCall ext_statement book.new call.ctx.0
         call.step.parts call.step.premises extension_parts) }
 {
     called_premises_are_derived();
-    let nodes = premises(book, EQUIV_VARIABLE, EQUIV_VARIABLE_PREMISES)?;
+    let nodes = premises(book, EXT_VARIABLE, EXT_VARIABLE_PREMISES)?;
     let ctx = context_of(book, nodes.as_slice());
     let parts = raised_parts(book, ctx)?;
     Ok(call_of(parts, nodes.as_slice()))

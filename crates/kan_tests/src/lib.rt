@@ -21,8 +21,8 @@ macro_rules! table {
 
 mod calls;
 mod contr_variable;
-mod equiv_numbers;
-mod equiv_variable;
+mod ext_numbers;
+mod ext_variable;
 mod fill_faces;
 mod fill_lines;
 mod fill_premises;
@@ -30,8 +30,8 @@ mod pres_numbers;
 
 pub use calls::{Call, contraction, extension, filling, preservation};
 pub use contr_variable::{CONTR_VARIABLE, CONTR_VARIABLE_GIVES, CONTR_VARIABLE_PREMISES};
-pub use equiv_numbers::{EQUIV_NUMBERS, EQUIV_NUMBERS_GIVES};
-pub use equiv_variable::{EQUIV_VARIABLE, EQUIV_VARIABLE_GIVES, EQUIV_VARIABLE_PREMISES};
+pub use ext_numbers::{EXT_NUMBERS, EXT_NUMBERS_GIVES};
+pub use ext_variable::{EXT_VARIABLE, EXT_VARIABLE_GIVES, EXT_VARIABLE_PREMISES};
 pub use fill_faces::{FILL_FACES, FILL_FACES_GIVES};
 pub use fill_lines::{FILL_LINES, FILL_LINES_GIVES};
 pub use fill_premises::{FILL_PREMISES, FILL_PREMISES_GIVES};
@@ -60,12 +60,12 @@ pub fn preservation_is_derived()
 
 /// An element of the fiber of an equivalence, extended from a face.
 pub fn extension_is_derived()
-    ensures { Derives earlier lifted_statement EQUIV_VARIABLE.now EQUIV_VARIABLE_GIVES.now }
+    ensures { Derives earlier lifted_statement EXT_VARIABLE.now EXT_VARIABLE_GIVES.now }
 {}
 
 /// The identity of numbers is an equivalence, and an element of its fiber is extended from a face.
 pub fn identity_is_equivalence()
-    ensures { Derives earlier identity_statement EQUIV_NUMBERS.now EQUIV_NUMBERS_GIVES.now }
+    ensures { Derives earlier identity_statement EXT_NUMBERS.now EXT_NUMBERS_GIVES.now }
 {}
 
 /// The premises of a filling that is called.
@@ -79,6 +79,6 @@ pub fn called_premises_are_derived()
         CONTR_VARIABLE_PREMISES.now }
     ensures preservation { Derives earlier moved_statement (before_last PRES_NUMBERS.now)
         PRES_NUMBERS_PREMISES.now }
-    ensures extension { Derives earlier raised_statement (before_last EQUIV_VARIABLE.now)
-        EQUIV_VARIABLE_PREMISES.now }
+    ensures extension { Derives earlier raised_statement (before_last EXT_VARIABLE.now)
+        EXT_VARIABLE_PREMISES.now }
 {}

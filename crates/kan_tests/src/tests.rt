@@ -8,8 +8,8 @@ ghost use Rattle.recipe_runner.specs.Running.{MayRun, most_made_by};
 
 use crate::calls::given;
 use crate::{
-    CONTR_VARIABLE, CONTR_VARIABLE_GIVES, EQUIV_NUMBERS, EQUIV_NUMBERS_GIVES, EQUIV_VARIABLE,
-    EQUIV_VARIABLE_GIVES, FILL_FACES, FILL_FACES_GIVES, FILL_LINES, FILL_LINES_GIVES, PRES_NUMBERS,
+    CONTR_VARIABLE, CONTR_VARIABLE_GIVES, EXT_NUMBERS, EXT_NUMBERS_GIVES, EXT_VARIABLE,
+    EXT_VARIABLE_GIVES, FILL_FACES, FILL_FACES_GIVES, FILL_LINES, FILL_LINES_GIVES, PRES_NUMBERS,
     PRES_NUMBERS_GIVES, contraction_is_derived, extension_is_derived, fillings_are_derived,
     identity_is_equivalence, preservation_is_derived,
 };
@@ -68,7 +68,7 @@ fn a_preservation_is_right(rt: HostRuntime) -> Result<(), Fail> {
 #[test]
 fn an_extension_is_right(rt: HostRuntime) -> Result<(), Fail> {
     extension_is_derived();
-    let found = verdict(rt.alloc(), EQUIV_VARIABLE, EQUIV_VARIABLE_GIVES)?;
+    let found = verdict(rt.alloc(), EXT_VARIABLE, EXT_VARIABLE_GIVES)?;
     assert!(rt; matches!(found, Verdict::Yes { roots: 2, .. }));
     Ok(())
 }
@@ -76,7 +76,7 @@ fn an_extension_is_right(rt: HostRuntime) -> Result<(), Fail> {
 #[test]
 fn an_extension_along_the_identity_is_right(rt: HostRuntime) -> Result<(), Fail> {
     identity_is_equivalence();
-    let found = verdict(rt.alloc(), EQUIV_NUMBERS, EQUIV_NUMBERS_GIVES)?;
+    let found = verdict(rt.alloc(), EXT_NUMBERS, EXT_NUMBERS_GIVES)?;
     assert!(rt; matches!(found, Verdict::Yes { roots: 3, .. }));
     Ok(())
 }

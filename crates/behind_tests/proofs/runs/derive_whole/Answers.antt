@@ -5,8 +5,8 @@ use Rattle.kan_tests.specs.declared.fill_faces.TheConstants.{FILL_FACES, FILL_FA
 use Rattle.kan_tests.specs.declared.fill_lines.TheConstants.{FILL_LINES, FILL_LINES_GIVES}
 use Rattle.kan_tests.specs.declared.contr_variable.TheConstants.{CONTR_VARIABLE, CONTR_VARIABLE_GIVES}
 use Rattle.kan_tests.specs.declared.pres_numbers.TheConstants.{PRES_NUMBERS, PRES_NUMBERS_GIVES}
-use Rattle.kan_tests.specs.declared.equiv_variable.TheConstants.{EQUIV_VARIABLE, EQUIV_VARIABLE_GIVES}
-use Rattle.kan_tests.specs.declared.equiv_numbers.TheConstants.{EQUIV_NUMBERS, EQUIV_NUMBERS_GIVES}
+use Rattle.kan_tests.specs.declared.ext_variable.TheConstants.{EXT_VARIABLE, EXT_VARIABLE_GIVES}
+use Rattle.kan_tests.specs.declared.ext_numbers.TheConstants.{EXT_NUMBERS, EXT_NUMBERS_GIVES}
 use Rattle.book_tests.proofs.RunLaws.{may-try}
 use Rattle.behind_tests.specs.Glued.{glued_statement}
 use Rattle.behind_tests.specs.declared.glued.TheConstants.{GLUED, GLUED_GIVES}
@@ -25,10 +25,10 @@ pub given-requires-in-Preservation-clause-right : goal.given-requires-in-Preserv
 given-requires-in-Preservation-clause-right c = (conclusions_at carried_statement [], may-try earlier carried_statement PRES_NUMBERS.now PRES_NUMBERS_GIVES.now refl refl refl c.preservation_is_derived.ensures)
 
 pub given-requires-in-Extension-clause-right : goal.given-requires-in-Extension-clause-right
-given-requires-in-Extension-clause-right c = (conclusions_at lifted_statement [], may-try earlier lifted_statement EQUIV_VARIABLE.now EQUIV_VARIABLE_GIVES.now refl refl refl c.extension_is_derived.ensures)
+given-requires-in-Extension-clause-right c = (conclusions_at lifted_statement [], may-try earlier lifted_statement EXT_VARIABLE.now EXT_VARIABLE_GIVES.now refl refl refl c.extension_is_derived.ensures)
 
 pub given-requires-in-Identity-clause-right : goal.given-requires-in-Identity-clause-right
-given-requires-in-Identity-clause-right c = (conclusions_at identity_statement [], may-try earlier identity_statement EQUIV_NUMBERS.now EQUIV_NUMBERS_GIVES.now refl refl refl c.identity_is_equivalence.ensures)
+given-requires-in-Identity-clause-right c = (conclusions_at identity_statement [], may-try earlier identity_statement EXT_NUMBERS.now EXT_NUMBERS_GIVES.now refl refl refl c.identity_is_equivalence.ensures)
 
 pub given-requires-in-Glue-clause-right : goal.given-requires-in-Glue-clause-right
 given-requires-in-Glue-clause-right c = (conclusions_at glued_statement [], may-try earlier glued_statement GLUED.now GLUED_GIVES.now refl refl refl c.glued_is_derived.ensures)

@@ -5,13 +5,13 @@ use Rattle.book.specs.Shown.{book_means, book_concludes}
 use Rattle.recipes.specs.Derivations.{Derives, conclusions_at}
 use Rattle.recipe_runner.specs.Running.{MayRun}
 use Rattle.kan_tests.specs.Fillings.{raised_statement, before_last, earlier}
-use Rattle.kan_tests.specs.declared.equiv_variable.TheConstants.{EQUIV_VARIABLE, EQUIV_VARIABLE_PREMISES}
+use Rattle.kan_tests.specs.declared.ext_variable.TheConstants.{EXT_VARIABLE, EXT_VARIABLE_PREMISES}
 use Rattle.book_tests.proofs.RunLaws.{may-try}
 use Rattle.kan_tests.proofs.TestLaws.{may-extend, some-nodes, conclusions-later}
 use Rattle.kan_tests.proofs.calls.extension.Goals as goal
 
-right : Derives earlier raised_statement (before_last EQUIV_VARIABLE.now) EQUIV_VARIABLE_PREMISES.now → (b : Contents) → MayRun earlier b (before_last EQUIV_VARIABLE.now) EQUIV_VARIABLE_PREMISES.now [] [] (conclusions_at raised_statement [])
-right = may-try earlier raised_statement (before_last EQUIV_VARIABLE.now) EQUIV_VARIABLE_PREMISES.now refl refl refl
+right : Derives earlier raised_statement (before_last EXT_VARIABLE.now) EXT_VARIABLE_PREMISES.now → (b : Contents) → MayRun earlier b (before_last EXT_VARIABLE.now) EXT_VARIABLE_PREMISES.now [] [] (conclusions_at raised_statement [])
+right = may-try earlier raised_statement (before_last EXT_VARIABLE.now) EXT_VARIABLE_PREMISES.now refl refl refl
 
 pub premises-requires-clause-right : goal.premises-requires-clause-right
 premises-requires-clause-right c = (conclusions_at raised_statement [], right c.called_premises_are_derived.ensures.extension)

@@ -21,7 +21,7 @@ use theory::UniverseRule::TyU;
 
 /// The identity of the numbers is an equivalence: each fiber contracts to a number and its constant
 /// path. An element of a fiber is extended from a face.
-pub static EQUIV_NUMBERS: &[Row] = table! {
+pub static EXT_NUMBERS: &[Row] = table! {
     // 0: ctx []
     Conclude(Contexts(CtxNil), [0, 0, 0, 0, 0, 0, 0, 0, 0, 0], [0, 0, 0, 0, 0, 0, 0]),
     Nil,
@@ -602,10 +602,10 @@ pub static EQUIV_NUMBERS: &[Row] = table! {
     WithFace(351, 358),
     // 361: P >> var 0 : fiber
     Conclude(Instances(TmSub), [360, 28, 351, 34, 348, 0, 0, 0, 0, 0], [359, 356, 0, 0, 0, 0, 0]),
-    // 362: equiv
+    // 362: ext
     Derive(3, [351, 5, 5, 333, 358, 34, 343, 0, 0, 0],
         [349, 354, 354, 352, 355, 361, 0, 0, 0, 0, 0, 0, 0, 0, 0, 0]),
 };
 
 /// The rows of what it gives: equivalence, typing, face.
-pub static EQUIV_NUMBERS_GIVES: &[u16] = &[332, 362, 363];
+pub static EXT_NUMBERS_GIVES: &[u16] = &[332, 362, 363];

@@ -15,7 +15,7 @@ use theory::SigmaRule::{Fst, SigTy};
 use theory::UniverseRule::TyU;
 
 /// An element of the fiber of an equivalence that is a variable is extended from a face.
-pub static EQUIV_VARIABLE: &[Row] = table! {
+pub static EXT_VARIABLE: &[Row] = table! {
     // 0: ctx []
     Conclude(Contexts(CtxNil), [0, 0, 0, 0, 0, 0, 0, 0, 0, 0], [0, 0, 0, 0, 0, 0, 0]),
     Nil,
@@ -210,13 +210,13 @@ pub static EQUIV_VARIABLE: &[Row] = table! {
     Instance(103, 33),
     // 117: P >> var 0 : fiber+
     Conclude(Instances(TmSub), [115, 28, 106, 34, 116, 0, 0, 0, 0, 0], [114, 111, 0, 0, 0, 0, 0]),
-    // 118: equiv
+    // 118: ext
     Derive(3, [106, 5, 5, 36, 113, 34, 98, 0, 0, 0],
         [104, 109, 109, 107, 110, 117, 0, 0, 0, 0, 0, 0, 0, 0, 0, 0]),
 };
 
 /// The rows of what it gives: typing, face.
-pub static EQUIV_VARIABLE_GIVES: &[u16] = &[118, 119];
+pub static EXT_VARIABLE_GIVES: &[u16] = &[118, 119];
 
 /// The rows of the premises of its last row: context, source, target, equivalence, point, element.
-pub static EQUIV_VARIABLE_PREMISES: &[u16] = &[104, 109, 109, 107, 110, 117];
+pub static EXT_VARIABLE_PREMISES: &[u16] = &[104, 109, 109, 107, 110, 117];

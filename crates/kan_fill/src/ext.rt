@@ -14,7 +14,7 @@ use theory::SigmaRule::{Fst, SigTy, Snd};
 
 /// Extension: an element of the fiber of an equivalence w at a, which is z where p is.
 /// Its parts are G T A w p z a.
-pub static EQUIV: &[Row] = table! {
+pub static EXT: &[Row] = table! {
     // 0: ctx G
     Premise(0),
     // 1: G >> T
@@ -125,4 +125,4 @@ pub static EQUIV: &[Row] = table! {
 };
 
 /// The rows of what it gives: typing, face.
-pub static EQUIV_GIVES: &[u16] = &[85, 86];
+pub static EXT_GIVES: &[u16] = &[85, 86];
