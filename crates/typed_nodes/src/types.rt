@@ -1,12 +1,10 @@
 //! Types that stand under substitutions.
 
-use crate::calls::derive;
+use crate::instances::type_instance;
 use crate::node_rows::{subject_row, substitution_row};
 use book::{Book, NodeId};
-use book_shifts::laws_of_shifts;
 use rows::{Maker, TermId};
 use std::alloc::AllocError;
-use typing_rules::{TYPE_INSTANCE, TYPE_INSTANCE_GIVES, places_are_derived, places_at_trees};
 
 /// A type of H: `A[d]`, where `G >> A` and `d : H to G`.
 #[derive(Clone, Copy, Debug, PartialEq, Eq)]
@@ -57,11 +55,7 @@ impl TypeAt {
         ensures typed { IfOk result (λ node. (H : Context) (A : Tree) →
             IsTypeAt book.old self H A → Says book.new node (Ty H A)) }
     {
-        places_are_derived();
-        places_at_trees();
-        laws_of_shifts(book);
-        let premises = [self.sub.0, self.ty.0];
-        Ok(derive(book, TYPE_INSTANCE, TYPE_INSTANCE_GIVES, &[], &premises)?)
+        Ok(type_instance(book, self.sub, self.ty)?)
     }
 
     /// The row of its tree.
