@@ -179,11 +179,11 @@ impl CheckState {
     }
 
     /// The substitution that does nothing there.
-    pub(crate) fn here(&mut self, book: &mut Book) -> Result<NodeId, AllocError>
-        requires { (S : State) × IsState book.old self.old S }
+    pub(crate) fn here(&self, book: &mut Book) -> Result<NodeId, AllocError>
+        requires { (S : State) × IsState book.old self.now S }
         ensures extends { Extends book.old book.new }
-        ensures here { IfOk result (λ sub. (S : State) → IsState book.old self.old S →
-            Says book.new sub (Sb (place S) (id trees) (place S)) × IsState book.new self.new S) }
+        ensures here { IfOk result (λ sub. (S : State) → IsState book.old self.now S →
+            Says book.new sub (Sb (place S) (id trees) (place S))) }
     {
         Ok(self.places.here(book)?)
     }
@@ -222,35 +222,34 @@ impl CheckState {
     // types there
 
     /// A type of the place by its node.
-    pub(crate) fn type_here(&mut self, book: &mut Book, ty: NodeId) -> Result<TypeAt, AllocError>
-        requires { (S : State) × (A : Tree) × IsState book.old self.old S
+    pub(crate) fn type_here(&self, book: &mut Book, ty: NodeId) -> Result<TypeAt, AllocError>
+        requires { (S : State) × (A : Tree) × IsState book.old self.now S
             × Says book.old ty (Ty (place S) A) }
         ensures extends { Extends book.old book.new }
-        ensures here { IfOk result (λ at. (S : State) → IsState book.old self.old S →
-            IsState book.new self.new S
-            × ((A : Tree) → Says book.old ty (Ty (place S) A) → IsTypeAt book.new at (place S) A)) }
+        ensures here { IfOk result (λ at. (S : State) (A : Tree) → IsState book.old self.now S →
+            Says book.old ty (Ty (place S) A) → IsTypeAt book.new at (place S) A) }
     {
         let sub = self.here(book)?;
         Ok(TypeAt { ty, sub })
     }
 
     /// The type of numbers.
-    pub(crate) fn numbers(&mut self, book: &mut Book) -> Result<TypeAt, AllocError>
-        requires { (S : State) × IsState book.old self.old S }
+    pub(crate) fn numbers(&self, book: &mut Book) -> Result<TypeAt, AllocError>
+        requires { (S : State) × IsState book.old self.now S }
         ensures extends { Extends book.old book.new }
-        ensures here { IfOk result (λ at. (S : State) → IsState book.old self.old S →
-            IsState book.new self.new S × IsTypeAt book.new at (place S) nat) }
+        ensures here { IfOk result (λ at. (S : State) → IsState book.old self.now S →
+            IsTypeAt book.new at (place S) nat) }
     {
         let (_, ty) = numbers_type(book, self.ctx())?;
         Ok(self.type_here(book, ty)?)
     }
 
     /// The universe.
-    pub fn universe(&mut self, book: &mut Book) -> Result<TypeAt, AllocError>
-        requires { (S : State) × IsState book.old self.old S }
+    pub fn universe(&self, book: &mut Book) -> Result<TypeAt, AllocError>
+        requires { (S : State) × IsState book.old self.now S }
         ensures extends { Extends book.old book.new }
-        ensures here { IfOk result (λ at. (S : State) → IsState book.old self.old S →
-            IsState book.new self.new S × IsTypeAt book.new at (place S) universe) }
+        ensures here { IfOk result (λ at. (S : State) → IsState book.old self.now S →
+            IsTypeAt book.new at (place S) universe) }
     {
         let ty = universe_type(book, self.ctx())?;
         Ok(self.type_here(book, ty)?)

@@ -42,8 +42,9 @@ pub returns-in_ok-plan-in-Small-clause-steps : goal.returns-in_ok-plan-in-Small-
 returns-in_ok-plan-in-Small-clause-steps c = λ S M s e.
     let b = c.universe.new.book in
     let ty = c.in_ok-ty-in-Small.ty in
-    let (state, at) = c.in_ok-ty-in-Small.ensures.here S s in
+    let state = state_later c.in_ok-ty-in-Small.ensures.extends c.args.state.now S s in
+    let at = c.in_ok-ty-in-Small.ensures.here S s in
     let ts = task.Check c.args.code ty ∷ [] in
     let less : 3 + weight_of c.args.code.now + 0 < 4 + weight_of c.args.code.now = omega arith in
-    leaves b c.universe.new.self c.args.tasks.now c.plan-in-Small.new.self (task.Form c.args.code c.args.sort) c.in_ok-plan-in-Small.field-0 M S ts c.in_ok-plan-in-Small.ensures.0 state c.in_ok-plan-in-Small.ensures.1 less
+    leaves b c.args.state.now c.args.tasks.now c.plan-in-Small.new.self (task.Form c.args.code c.args.sort) c.in_ok-plan-in-Small.field-0 M S ts c.in_ok-plan-in-Small.ensures.0 state c.in_ok-plan-in-Small.ensures.1 less
     (run_one b S M (task.Check c.args.code ty) (universe, at, e ∙ ap (λ z. form z (typed c.args.code.now) S) c.in-Small.is))

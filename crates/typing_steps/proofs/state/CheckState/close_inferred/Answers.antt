@@ -99,11 +99,12 @@ returns-clause-closes c = λ S M is (G, A, t, B, js, rs, known, found, last, mad
     let T = with_known G (with_found js (with_inferred rs S)) in
     let term = c.in_ok-term.ensures.typed (place_of G) A t B (says_later _ _ c.take_node-domain.result (Ty (place_of G) A) first domain)
     (says_later _ _ c.take_head-body.result.term (Tm (WithVar (place_of G) A) t B) first body.term_is) in
-    let (there, types) = c.in_ok-ty-2.ensures.here T (state_later (further first (further second third)) c.leave.new.self T before) in (
+    let formed = state_later (further first (further second third)) c.leave.new.self T before in
+    let there = state_later c.in_ok-ty-2.ensures.extends _ _ formed in (
       inferring (lam A t) (pi A B) T,
       c.in_ok-inferred.ensures c.type_here.new.book T (lam A t) (pi A B) there (record {
         term_is = says_later _ _ c.in_ok-term.term (Tm (place_of G) (lam A t) (pi A B)) (further third c.in_ok-ty-2.ensures.extends) term;
-        type_at = types (pi A B) (c.in_ok-ty.ensures.typed (place_of G) A B type codomain);
+        type_at = c.in_ok-ty-2.ensures.here T (pi A B) formed (c.in_ok-ty.ensures.typed (place_of G) A B type codomain);
       }),
       made,
     )

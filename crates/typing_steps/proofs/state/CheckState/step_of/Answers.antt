@@ -47,10 +47,11 @@ returns-clause-steps c = λ S M is (P, a, js, found, made).
     let step = c.in_ok-ty.ensures.typed (place S) P (c.ctx.ensures c.args.book.now _ one) motive in
     let again = c.in_ok-found.ensures c.motive_step.new.book _ _ (state_later c.in_ok-ty.ensures.extends _ _ one) (says_later _ _ _ _ c.in_ok-ty.ensures.extends base) in
     let back : IsState c.motive_step.new.book c.found.new.self S = subst (λ xs. IsState c.motive_step.new.book c.found.new.self (with_found xs S)) (sym found) again in
-    let (state, here) = c.in_ok-ty-2.ensures.here S back in
+    let state = state_later c.in_ok-ty-2.ensures.extends _ _ back in
+    let here = c.in_ok-ty-2.ensures.here S (motive_step P) back step in
     let (moved, planned) = c.in_ok-plan.ensures in
-    leaves _ c.type_here.new.self c.args.tasks.now c.plan.new.self (task.Recurring (recurring.Step c.args.code)) _ M S (task.Check c.args.code c.in_ok-ty-2.ty ∷ []) moved state planned (omega arith)
-    (run_one _ S M (task.Check c.args.code c.in_ok-ty-2.ty) (motive_step P, here (motive_step P) step, made))
+    leaves _ c.found.new.self c.args.tasks.now c.plan.new.self (task.Recurring (recurring.Step c.args.code)) _ M S (task.Check c.args.code c.in_ok-ty-2.ty ∷ []) moved state planned (omega arith)
+    (run_one _ S M (task.Check c.args.code c.in_ok-ty-2.ty) (motive_step P, here, made))
 
 pub returns-in_err-ty-2-clause-extends : goal.returns-in_err-ty-2-clause-extends
 returns-in_err-ty-2-clause-extends c = further c.in_ok-ty.ensures.extends c.type_here.ensures.extends

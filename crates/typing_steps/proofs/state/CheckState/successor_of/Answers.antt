@@ -41,6 +41,8 @@ returns-clause-done c =
     let (n, js, found, e) = does in
     let (number, left) = c.take_node-number.ensures c.args.book.now S (Tm (place S) n nat) js is found in
     let T : State = with_found js S in
-    let (state, type) = c.in_ok-ty.ensures.here T (state_later c.successor.ensures.extends c.take_node-number.new.self T left) in
+    let before = state_later c.successor.ensures.extends c.take_node-number.new.self T left in
+    let state = state_later c.numbers.ensures.extends _ _ before in
+    let type = c.in_ok-ty.ensures.here T before in
     let node = says_later c.successor.new.book c.numbers.new.book c.in_ok-term.term (Tm (place S) (suc n) nat) c.numbers.ensures.extends (c.in_ok-term.ensures.typed (place S) n number) in
     (inferring (suc n) nat T, c.in_ok-inferred.ensures c.numbers.new.book T (suc n) nat state (record { term_is = node; type_at = type }), e)

@@ -42,12 +42,13 @@ is_same-requires c =
     let (S, A, W, js, is, found, at) = c.requires in
     let grown = c.in_ok-family.ensures.extends in
     let node = says_later _ _ c.last_node-node.result (Ty (place S) A) grown (c.last_node-node.ensures c.args.book.now S (Ty (place S) A) js is found) in
-    let (later, here) = c.in_ok-here.ensures.here S (state_later grown c.args.self.now S is) in
+    let before = state_later grown c.args.self.now S is in
+    let here = c.in_ok-here.ensures.here S A before node in
     let (C, D, whole, family) = subst (λ l. IsLiteral c.literal.new.book l (place S) W) c.in-Pi.is (c.in_ok-family.ensures.literal (place S) W at) in (
       place S,
       A,
       C,
-      here A node,
+      here,
       c.domain_of.ensures c.type_here.new.book (place S) C D (family_later _ _ c.in-Pi.family (place S) C D c.in_ok-here.ensures.extends family),
     )
 
@@ -61,9 +62,10 @@ pub returns-then-not-branch-clause-takes : goal.returns-then-not-branch-clause-t
 returns-then-not-branch-clause-takes c = λ S A W js is found at.
     let grown = c.in_ok-family.ensures.extends in
     let node = says_later _ _ c.last_node-node.result (Ty (place S) A) grown (c.last_node-node.ensures c.args.book.now S (Ty (place S) A) js is found) in
-    let (later, here) = c.in_ok-here.ensures.here S (state_later grown c.args.self.now S is) in
+    let before = state_later grown c.args.self.now S is in
+    let here = c.in_ok-here.ensures.here S A before node in
     let (C, D, whole, family) = subst (λ l. IsLiteral c.literal.new.book l (place S) W) c.in-Pi.is (c.in_ok-family.ensures.literal (place S) W at) in
-    let same = c.in_ok-is_same.ensures.same (place S) A C (here A node)
+    let same = c.in_ok-is_same.ensures.same (place S) A C here
     (c.domain_of.ensures c.type_here.new.book (place S) C D (family_later _ _ c.in-Pi.family (place S) C D c.in_ok-here.ensures.extends family)) in
     taken_other A C D W whole (λ e. false≢true (sym c.if-not-branch.true ∙ same.1 e))
 
@@ -72,11 +74,11 @@ enter-requires c =
     let (S, A, W, js, is, found, at) = c.requires in
     let grown = c.in_ok-family.ensures.extends in
     let node = says_later _ _ c.last_node-node.result (Ty (place S) A) grown (c.last_node-node.ensures c.args.book.now S (Ty (place S) A) js is found) in
-    let (later, here) = c.in_ok-here.ensures.here S (state_later grown c.args.self.now S is) in (
+    let more = further c.in_ok-here.ensures.extends c.in_ok-is_same.ensures.extends in (
       S,
       A,
-      state_later c.in_ok-is_same.ensures.extends c.type_here.new.self S later,
-      says_later _ _ c.last_node-node.result (Ty (place S) A) (further c.in_ok-here.ensures.extends c.in_ok-is_same.ensures.extends) node,
+      state_later (further grown more) c.args.self.now S is,
+      says_later _ _ c.last_node-node.result (Ty (place S) A) more node,
     )
 
 pub returns-in_err-enter-clause-extends : goal.returns-in_err-enter-clause-extends
@@ -104,12 +106,13 @@ pub returns-clause-takes : goal.returns-clause-takes
 returns-clause-takes c = λ S A W js is found at.
     let grown = c.in_ok-family.ensures.extends in
     let node = says_later _ _ c.last_node-node.result (Ty (place S) A) grown (c.last_node-node.ensures c.args.book.now S (Ty (place S) A) js is found) in
-    let (later, here) = c.in_ok-here.ensures.here S (state_later grown c.args.self.now S is) in
+    let before = state_later grown c.args.self.now S is in
+    let here = c.in_ok-here.ensures.here S A before node in
     let (C, D, whole, family) = subst (λ l. IsLiteral c.literal.new.book l (place S) W) c.in-Pi.is (c.in_ok-family.ensures.literal (place S) W at) in
-    let same = c.in_ok-is_same.ensures.same (place S) A C (here A node)
+    let same = c.in_ok-is_same.ensures.same (place S) A C here
     (c.domain_of.ensures c.type_here.new.book (place S) C D (family_later _ _ c.in-Pi.family (place S) C D c.in_ok-here.ensures.extends family)) in
     let more = further c.in_ok-here.ensures.extends (further c.in_ok-is_same.ensures.extends c.in_ok-enter.ensures.extends) in
-    let entered = c.in_ok-enter.ensures.under S A (state_later c.in_ok-is_same.ensures.extends c.type_here.new.self S later)
+    let entered = c.in_ok-enter.ensures.under S A (state_later (further c.in_ok-here.ensures.extends c.in_ok-is_same.ensures.extends) c.args.self.now S before)
     (says_later _ _ c.last_node-node.result (Ty (place S) A) (further c.in_ok-here.ensures.extends c.in_ok-is_same.ensures.extends) node) in
     let one : A ≡ C = same.0 c.if-not-branch.false in (
       D,

@@ -6,15 +6,11 @@ use Rattle.typing_tasks.specs.States.{place}
 use Rattle.typing_steps.proofs.state.CheckState.type_here.Goals as goal
 
 pub returns-clause-here : goal.returns-clause-here
-returns-clause-here c = λ S s.
-    let (says, state) = c.in_ok-sub.ensures.here S s in (
-      state,
-      λ A ty. record {
-        home = place S;
-        tree = A;
-        sub = _;
-        type_is = says_later _ _ c.args.ty (Ty (place S) A) c.in_ok-sub.ensures.extends ty;
-        sub_is = says;
-        is = sym (apply-id A);
-      },
-    )
+returns-clause-here c = λ S A s ty. record {
+  home = place S;
+  tree = A;
+  sub = _;
+  type_is = says_later _ _ c.args.ty (Ty (place S) A) c.in_ok-sub.ensures.extends ty;
+  sub_is = c.in_ok-sub.ensures.here S s;
+  is = sym (apply-id A);
+}

@@ -24,5 +24,4 @@ returns-clause-extends c = further c.in_ok-ty.ensures.extends c.in_ok-type_here.
 pub returns-clause-here : goal.returns-clause-here
 returns-clause-here c = λ S s.
     let typed = c.in_ok-ty.ensures.typed (place S) (c.ctx.ensures c.args.book.now S s) in
-    let (state, at) = c.in_ok-type_here.ensures.here S (state_later c.in_ok-ty.ensures.extends c.args.self.now S s) in
-    (state, at universe typed)
+    c.in_ok-type_here.ensures.here S universe (state_later c.in_ok-ty.ensures.extends c.args.self.now S s) typed

@@ -28,7 +28,9 @@ returns-clause-extends c = further c.in_ok-term.ensures.extends c.in_ok-ty.ensur
 pub returns-clause-infers : goal.returns-clause-infers
 returns-clause-infers c = λ S s.
     let says = c.in_ok-term.ensures.typed (place S) (c.ctx.ensures c.args.book.now S s) in
-    let (state, at) = c.in_ok-ty.ensures.here S (state_later c.in_ok-term.ensures.extends c.args.self.now S s) in
+    let before = state_later c.in_ok-term.ensures.extends c.args.self.now S s in
+    let state = state_later c.in_ok-ty.ensures.extends _ _ before in
+    let at = c.in_ok-ty.ensures.here S before in
     let typed : IsTyped c.numbers.new.book (record { term = c.in_ok-term.term; ty = c.in_ok-ty.ty }) (place S) zero nat =
     record { term_is = c.in_ok-ty.ensures.extends.conclusions c.in_ok-term.term.0 _ says; type_at = at } in
     (inferring zero nat S, c.in_ok-inferred.ensures c.numbers.new.book S zero nat state typed, refl)
