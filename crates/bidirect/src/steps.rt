@@ -54,7 +54,7 @@ fn defining<'a>(
         Defining::Block(defs) => Ok(typing_steps::block(tasks, defs)?),
         Defining::Body(code) => Ok(state.body(book, tasks, code)?),
         Defining::Close(number) => Ok(state.close_definition(number)?),
-        Defining::End(count) => Ok(state.end(count)?),
+        Defining::End(count) => Ok(state.forget_definitions(count)?),
     }
 }
 
@@ -162,7 +162,7 @@ fn lining<'a>(
     match lining {
         Lining::Line(line, sort) => Ok(typing_steps::line(tasks, line, sort)?),
         Lining::EnterName => Ok(state.under_a_name(book)?),
-        Lining::Leave => Ok(state.left()?),
+        Lining::Leave => Ok(state.leave_entry()?),
         Lining::PathInUniverse(sort) => Ok(state.path_at_name(book, sort)?),
         Lining::Left(code, sort) => Ok(state.left_end(book, tasks, code, sort)?),
         Lining::Right(code, sort) => Ok(state.right_end(book, tasks, code, sort)?),
@@ -183,7 +183,7 @@ fn comparing(
 {
     match comparing {
         Comparing::At(ty) => Ok(state.at_type(book, ty)?),
-        Comparing::IsSmall => Ok(state.is_small(book)?),
+        Comparing::IsSmall => Ok(state.as_small_type(book)?),
         Comparing::Small => Ok(state.small(book)?),
     }
 }

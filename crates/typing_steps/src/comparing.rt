@@ -32,7 +32,7 @@ impl CheckState {
     }
 
     /// The term that was inferred last is of the universe: a type.
-    pub fn is_small(&mut self, book: &mut Book) -> Result<Next, AllocError>
+    pub fn as_small_type(&mut self, book: &mut Book) -> Result<Next, AllocError>
         requires { MayStep book.old self.old (ComparingOf IsSmall) }
         ensures extends { Extends book.old book.new }
         ensures done { IfOk result (Finishes book.old book.new self.old self.new

@@ -57,7 +57,7 @@ impl CheckState {
     }
 
     /// To forget so many definitions.
-    pub fn end(&mut self, count: usize) -> Result<Next, AllocError>
+    pub fn forget_definitions(&mut self, count: usize) -> Result<Next, AllocError>
         requires { (b : Contents) × MayStep b self.old (DefiningOf (End count)) }
         ensures { IfOk result (λ next. (b : Contents) →
             Finishes b b self.old self.new (DefiningOf (End count)) next) }

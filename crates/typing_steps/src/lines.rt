@@ -82,7 +82,7 @@ impl CheckState {
     }
 
     /// Leaves the last variable or name.
-    pub fn left(&mut self) -> Result<Next, AllocError>
+    pub fn leave_entry(&mut self) -> Result<Next, AllocError>
         requires { (b : Contents) × MayStep b self.old (LiningOf Leave) }
         ensures { IfOk result (λ next. (b : Contents) →
             Finishes b b self.old self.new (LiningOf Leave) next) }

@@ -6,8 +6,8 @@ use Rattle.bidirect.proofs.steps.lining.Goals as goal
 pub returns-in_ok-under_a_name-in-EnterName-clause-steps : goal.returns-in_ok-under_a_name-in-EnterName-clause-steps
 returns-in_ok-under_a_name-in-EnterName-clause-steps c = finished c.args.book.now c.under_a_name.new.book c.args.state.now c.under_a_name.new.self c.args.tasks.now _ _ _ (ap task.Lining c.in-EnterName.is) refl c.in_ok-under_a_name-in-EnterName.ensures.done
 
-pub returns-in_ok-left-in-Leave-clause-steps : goal.returns-in_ok-left-in-Leave-clause-steps
-returns-in_ok-left-in-Leave-clause-steps c = finished c.args.book.now c.args.book.now c.args.state.now c.left.new.self c.args.tasks.now _ _ _ (ap task.Lining c.in-Leave.is) refl (c.in_ok-left-in-Leave.ensures c.args.book.now)
+pub returns-in_ok-leave_entry-in-Leave-clause-steps : goal.returns-in_ok-leave_entry-in-Leave-clause-steps
+returns-in_ok-leave_entry-in-Leave-clause-steps c = finished c.args.book.now c.args.book.now c.args.state.now c.leave_entry.new.self c.args.tasks.now _ _ _ (ap task.Lining c.in-Leave.is) refl (c.in_ok-leave_entry-in-Leave.ensures c.args.book.now)
 
 pub returns-in_ok-path_at_name-in-PathInUniverse-clause-steps : goal.returns-in_ok-path_at_name-in-PathInUniverse-clause-steps
 returns-in_ok-path_at_name-in-PathInUniverse-clause-steps c = finished c.args.book.now c.path_at_name.new.book c.args.state.now c.path_at_name.new.self c.args.tasks.now _ _ _ (ap task.Lining c.in-PathInUniverse.is) refl c.in_ok-path_at_name-in-PathInUniverse.ensures.done

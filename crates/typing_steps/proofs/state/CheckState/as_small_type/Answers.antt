@@ -6,7 +6,7 @@ use Rattle.places.proofs.GrowthLaws.{further}
 use Rattle.typing_tasks.specs.States.{place, finding, with_inferred}
 use Rattle.typing_steps.proofs.GrowthLaws.{state_later}
 use Rattle.typing_steps.proofs.LineLaws.{same_as, compared, of_type}
-use Rattle.typing_steps.proofs.state.CheckState.is_small.Goals as goal
+use Rattle.typing_steps.proofs.state.CheckState.as_small_type.Goals as goal
 
 pub take_head-head-requires : goal.take_head-head-requires
 take_head-head-requires c =
