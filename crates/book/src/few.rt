@@ -36,6 +36,18 @@ impl Few {
         }
     }
 
+    /// The list of these numbers.
+    pub fn of(numbers: &[u64]) -> Few
+        requires { length numbers.now ≤ 16 }
+        ensures { result ≡ numbers.now }
+    {
+        let mut few = Few::new();
+        for number in numbers {
+            few.push(*number);
+        }
+        few
+    }
+
     /// Appends a number.
     pub fn push(&mut self, number: u64)
         requires { length self.old < 16 }

@@ -1,6 +1,6 @@
 //! The calls.
 
-ghost use Rattle.std.specs.Prelude.{◌≡◌, ◌≤◌, ◌<◌, ◌+◌, ◌++◌, [], ◌∷◌, List, length};
+ghost use Rattle.std.specs.Prelude.{◌≡◌, ◌≤◌, ◌<◌, ◌+◌, ◌++◌, ◌∷◌, List, length};
 ghost use Rattle.std.specs.Prelude.{Some, IfOk, IsOk};
 ghost use Rattle.trees.specs.Judgements.{Judgement};
 ghost use Rattle.trees.specs.Things.{meanings};
@@ -49,15 +49,6 @@ fn followed(mut few: Few, more: &[u64]) -> Few
     few
 }
 
-/// The list of one number.
-fn only(number: NodeId) -> Few
-    ensures { result ≡ number.0 ∷ [] }
-{
-    let mut few = Few::new();
-    few.push(number.0);
-    few
-}
-
 /// Runs a recipe that gives a typing and then equations.
 fn call<E: Earlier>(
     book: &mut Book,
@@ -83,7 +74,7 @@ fn call<E: Earlier>(
         rows.now outs.now step.now.parts (ctx.0 ∷ step.now.premises) gives →
         meanings (book_concludes book.new) (derived.typing.0 ∷ derived.equations) ≡ Some gives) }
 {
-    let premises = followed(only(ctx), step.premises.as_slice());
+    let premises = followed(Few::of(&[ctx.0]), step.premises.as_slice());
     let nodes = run(
         book,
         earlier,
@@ -95,7 +86,7 @@ fn call<E: Earlier>(
     let (first, rest) = nodes.as_slice().split_at(1);
     Ok(Derived {
         typing: NodeId(first[0]),
-        equations: followed(Few::new(), rest),
+        equations: Few::of(rest),
     })
 }
 

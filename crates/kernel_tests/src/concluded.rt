@@ -1,7 +1,7 @@
 //! Derivations that are concluded rule by rule, nodes as they are read, each maker once, and a book
 //! that goes back to a mark.
 
-ghost use Rattle.std.specs.Prelude.{◌≡◌, ◌≤◌, length, IfOk, IsSome, Some};
+ghost use Rattle.std.specs.Prelude.{◌≡◌, IfOk, IsSome, Some};
 ghost use Rattle.trees.specs.Trees.{Tree};
 ghost use Rattle.trees.specs.Judgements.{Judgement, Context, Nil, WithVar, trees};
 ghost use Rattle.trees.specs.Language.{Ctx, Ty, Tm};
@@ -15,18 +15,6 @@ use std::alloc::AllocError;
 use std::process::Abort;
 use std::test::Fail;
 use theory::{Claim, ContextRule, InstanceRule, NatRule, Op, PiRule, RuleName, UniverseRule};
-
-/// The list of these numbers.
-fn few(numbers: &[u64]) -> Few
-    requires { length numbers.now ≤ 16 }
-    ensures { result ≡ numbers.now }
-{
-    let mut few = Few::new();
-    for number in numbers {
-        few.push(*number);
-    }
-    few
-}
 
 /// Concludes a rule of one premise, whose parts are the first rows of what the premise says. The
 /// node says that.
@@ -46,8 +34,8 @@ pub fn follow(
     let rows = book.conclusion(premise).rows();
     let node = book.conclude(&RuleUse {
         rule,
-        parts: few(rows.as_slice().split_at(count).0),
-        premises: few(&[premise.0]),
+        parts: Few::of(rows.as_slice().split_at(count).0),
+        premises: Few::of(&[premise.0]),
     })?;
     assert_eq!(rt; book.conclusion(node), says);
     Ok(node)
@@ -100,8 +88,8 @@ fn function(
     };
     Ok(book.conclude(&RuleUse {
         rule: RuleName::Pi(PiRule::Lam),
-        parts: few(&[ctx, ty, term, to]),
-        premises: few(&[domain.0, body.0]),
+        parts: Few::of(&[ctx, ty, term, to]),
+        premises: Few::of(&[domain.0, body.0]),
     })?)
 }
 

@@ -1,6 +1,6 @@
 //! The interpreter of recipes.
 
-ghost use Rattle.std.specs.Prelude.{◌≡◌, ◌≤◌, ◌<◌, ◌+◌, ℕ, [], ◌∷◌, List, Some, IfOk, IsOk, length};
+ghost use Rattle.std.specs.Prelude.{◌≡◌, ◌≤◌, ◌<◌, ◌+◌, ℕ, List, Some, IfOk, IsOk, length};
 ghost use Rattle.std.specs.Prelude.{slice_index, take};
 ghost use Rattle.std.specs.List.{All};
 ghost use Rattle.theory.specs.RuleNames.{kinds_of, premises_of};
@@ -157,15 +157,6 @@ fn derive<E: Earlier>(
     Ok(earlier.derive(book, recipe, parts.as_slice(), premises.as_slice())?)
 }
 
-/// The list of one number.
-fn only(number: u64) -> Few
-    ensures { result ≡ number ∷ [] }
-{
-    let mut few = Few::new();
-    few.push(number);
-    few
-}
-
 /// What a row makes: one number, or of an earlier recipe those of what it gives.
 fn make_all<E: Earlier>(
     book: &mut Book,
@@ -187,7 +178,7 @@ fn make_all<E: Earlier>(
 {
     match *row {
         Row::Derive(recipe, at, nodes) => Ok(derive(book, earlier, made, recipe, &at, &nodes)?),
-        _ => Ok(only(make(book, parts, premises, made, row)?)),
+        _ => Ok(Few::of(&[make(book, parts, premises, made, row)?])),
     }
 }
 

@@ -33,7 +33,7 @@ returns-in_ok-make-in_default g c =
     let same = most-same (g.E.Earlier.most a.earlier.now) a.row.now n.not-Derive in
     let some = one-made a.row.now in
     let spent = c.in_ok-make-in_default.ensures.spends in
-    let one = ap length c.only.ensures in
+    let one = ap length c.of.ensures in
     record {
       covered = λ enough. refl;
       spends = omega (arith, same, spent);
@@ -41,6 +41,6 @@ returns-in_ok-make-in_default g c =
       few = omega (arith, one, some);
       makes = λ new h.
           let t = makes-one ss a.book.now a.parts.now a.premises.now a.made.now a.row.now new n.not-Derive h in
-          subst (λ z. AreNumbersOf c.make.new.book z c.only.result) (sym t.is)
-          (subst (λ z. AreNumbersOf c.make.new.book (t.one ∷ []) z) (sym c.only.ensures) (c.in_ok-make-in_default.ensures.makes t.one t.makes, tt));
+          subst (λ z. AreNumbersOf c.make.new.book z c.of.result) (sym t.is)
+          (subst (λ z. AreNumbersOf c.make.new.book (t.one ∷ []) z) (sym c.of.ensures) (c.in_ok-make-in_default.ensures.makes t.one t.makes, tt));
     }

@@ -1,5 +1,5 @@
 use Rattle.std.proofs.Common.{◌≡◌, take}
-use Rattle.kernel_tests.proofs.concluded.few.Given as goal
+use Rattle.book.proofs.few.Few.of.Given as goal
 
 abbrev pub invariant-loop-number : goal.invariant-loop-number
 invariant-loop-number l = l.few ≡ take l.number-index l.numbers
