@@ -2,7 +2,7 @@
 
 ghost use Rattle.std.specs.Prelude.{◌≡◌, IfOk};
 ghost use Rattle.trees.specs.declared.op.Op.{Op};
-ghost use Rattle.trees.specs.Trees.{Tree, Make, trees_of};
+ghost use Rattle.trees.specs.Trees.{Tree};
 ghost use Rattle.trees.specs.Things.{Kept};
 ghost use Rattle.trees.specs.Operators.{kids_of};
 ghost use Rattle.rows.specs.Views.{IsTree};

@@ -1,7 +1,6 @@
 -- What is known of contexts and substitutions, and instances of types and terms, in every
 -- language.
 use Rattle.std.specs.Prelude.{List, [], ◌∷◌}
-use Rattle.trees.specs.declared.op.Op.TheVariants as op
 use Rattle.trees.specs.declared.kind.PartKind.{PartKind}
 use Rattle.trees.specs.declared.kind.PartKind.TheVariants.{Context, Subst, Term}
 use Rattle.trees.specs.Language.{Language, Ctx, Sb, Tm, Ty}

@@ -1,7 +1,6 @@
 -- How terms are formed, in every language: eliminations of terms whose types stand under a
 -- substitution.
 use Rattle.std.specs.Prelude.{List, [], ◌∷◌}
-use Rattle.trees.specs.declared.op.Op.TheVariants as op
 use Rattle.trees.specs.declared.kind.PartKind.{PartKind}
 use Rattle.trees.specs.declared.kind.PartKind.TheVariants.{Context, Subst, Term}
 use Rattle.trees.specs.Language.{Language, Ctx, IsFormula, Sb, Tm, Ty}

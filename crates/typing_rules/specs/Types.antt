@@ -1,8 +1,7 @@
 -- How types are formed, in every language.
 use Rattle.std.specs.Prelude.{List, [], ◌∷◌}
-use Rattle.trees.specs.declared.op.Op.TheVariants as op
 use Rattle.trees.specs.declared.kind.PartKind.{PartKind}
-use Rattle.trees.specs.declared.kind.PartKind.TheVariants.{Context, Subst, Term}
+use Rattle.trees.specs.declared.kind.PartKind.TheVariants.{Context, Term}
 use Rattle.trees.specs.Language.{Language, Ctx, Tm, Ty}
 use Rattle.patterns.specs.Patterns.{patterns}
 use Rattle.rules.specs.Table.{app, at, i0, i1, nat, papp, pathp, pi, sig, suc, universe, weakened}

@@ -1,9 +1,8 @@
 //! Terms that were inferred, against types.
 
 ghost use Rattle.std.specs.Prelude.{IfOk};
-ghost use Rattle.book.specs.Contents.{Contents};
 ghost use Rattle.book.specs.Shown.{Extends};
-ghost use Rattle.typing_steps.specs.Steps.{Finishes, MayStep, Plans, Steps};
+ghost use Rattle.typing_steps.specs.Steps.{Finishes, MayStep};
 ghost use Rattle.typing_tasks.specs.declared.tasks.Task.TheVariants.{Comparing as ComparingOf};
 ghost use Rattle.typing_tasks.specs.declared.tasks.Comparing.TheVariants.{At, IsSmall, Small};
 

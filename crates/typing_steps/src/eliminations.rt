@@ -1,9 +1,8 @@
 //! What heads are applied to, projections, and successors.
 
 ghost use Rattle.std.specs.Prelude.{◌≡◌, IfOk, List, [], ◌∷◌, Some};
-ghost use Rattle.book.specs.Contents.{Contents};
 ghost use Rattle.book.specs.Shown.{Extends};
-ghost use Rattle.typing_steps.specs.Steps.{Finishes, MayStep, Plans, Steps};
+ghost use Rattle.typing_steps.specs.Steps.{Finishes, MayStep, Steps};
 ghost use Rattle.typing_tasks.specs.declared.tasks.Task.TheVariants.{Eliminating as EliminatingOf};
 ghost use Rattle.typing_tasks.specs.declared.tasks.Eliminating.TheVariants.{Apply, Elements};
 ghost use Rattle.typing_tasks.specs.declared.tasks.Eliminating.TheVariants.{Number};

@@ -1,9 +1,8 @@
 //! Formulas of a text over the names of a place.
 
-ghost use Rattle.std.specs.Prelude.{◌≡◌, IfOk, IfSome, IsTrue, Some};
+ghost use Rattle.std.specs.Prelude.{◌≡◌, IfOk, IfSome, Some};
 ghost use Rattle.trees.specs.Judgements.{Context};
 ghost use Rattle.trees.specs.Things.{ATree};
-ghost use Rattle.conditions.specs.Sides.{is_formula};
 ghost use Rattle.form_rows.specs.Formulas.{formula_tree};
 ghost use Rattle.places.specs.Places.{IsPlace};
 ghost use Rattle.book.specs.Shown.{Extends, book_means};

@@ -1,7 +1,6 @@
 //! Types of functions and pairs, and functions.
 
 ghost use Rattle.std.specs.Prelude.{◌≡◌, IfOk, List, OnOk, Option, Some, None, ◌∷◌};
-ghost use Rattle.book.specs.Contents.{Contents};
 ghost use Rattle.book.specs.Shown.{Extends};
 ghost use Rattle.typing_steps.specs.Steps.{Finishes, MayStep, Plans, Steps};
 ghost use Rattle.typing_tasks.specs.declared.tasks.Task.TheVariants.{Binding as BindingOf};
@@ -9,10 +8,10 @@ ghost use Rattle.typing_tasks.specs.declared.tasks.Binding.TheVariants.{Close, C
 ghost use Rattle.typing_tasks.specs.declared.tasks.Binding.TheVariants.{Lambda};
 ghost use Rattle.typing_tasks.specs.declared.tasks.Binding.TheVariants.{Over, Take, Under};
 ghost use Rattle.trees.specs.Trees.{Tree};
-ghost use Rattle.trees.specs.Judgements.{Judgement, WithVar};
+ghost use Rattle.trees.specs.Judgements.{Judgement};
 ghost use Rattle.trees.specs.Language.{Ty};
 ghost use Rattle.translation.specs.Terms.{lifted};
-ghost use Rattle.direct.specs.Known.{Entry, Known, Variable};
+ghost use Rattle.direct.specs.Known.{Known, Variable};
 ghost use Rattle.typed_nodes.specs.Typed.{IsTypeAt};
 ghost use Rattle.typing_tasks.specs.States.{State, finding, place, place_of, under as entered};
 ghost use Rattle.typing_tasks.specs.Outcomes.{formed};

@@ -1,9 +1,8 @@
 //! Pairs and paths, against types.
 
 ghost use Rattle.std.specs.Prelude.{IfOk};
-ghost use Rattle.book.specs.Contents.{Contents};
 ghost use Rattle.book.specs.Shown.{Extends};
-ghost use Rattle.typing_steps.specs.Steps.{Finishes, MayStep, Plans, Steps};
+ghost use Rattle.typing_steps.specs.Steps.{Finishes, MayStep, Steps};
 ghost use Rattle.typing_tasks.specs.declared.tasks.Task.TheVariants.{Pairing as PairingOf};
 ghost use Rattle.typing_tasks.specs.declared.tasks.Pairing.TheVariants.{CloseName, Components};
 ghost use Rattle.typing_tasks.specs.declared.tasks.Pairing.TheVariants.{Names};

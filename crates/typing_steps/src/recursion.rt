@@ -3,7 +3,6 @@
 ghost use Rattle.std.specs.Prelude.{◌≡◌, IfOk, Some};
 ghost use Rattle.trees.specs.Things.{ATree};
 ghost use Rattle.translation.specs.Terms.{nat, pi, universe};
-ghost use Rattle.book.specs.Contents.{Contents};
 ghost use Rattle.book.specs.Shown.{Extends, book_means};
 ghost use Rattle.typing_steps.specs.Steps.{Finishes, MayStep, Plans, Steps};
 ghost use Rattle.typing_tasks.specs.declared.tasks.Task.TheVariants.{Recurring as RecurringOf};

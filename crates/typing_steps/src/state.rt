@@ -1,6 +1,6 @@
 //! What a checker knows at a place, and what it found.
 
-ghost use Rattle.std.specs.Prelude.{◌≡◌, List, [], ◌∷◌, IfOk, OnOk, Some};
+ghost use Rattle.std.specs.Prelude.{◌≡◌, List, ◌∷◌, IfOk, OnOk, Some};
 ghost use Rattle.trees.specs.Trees.{Tree};
 ghost use Rattle.trees.specs.Judgements.{Judgement, trees};
 ghost use Rattle.trees.specs.Language.{Ctx, Sb, Tm, Ty};
@@ -8,7 +8,7 @@ ghost use Rattle.translation.specs.Terms.{nat, universe};
 ghost use Rattle.rules.specs.Table.{id};
 ghost use Rattle.book.specs.Contents.{Contents};
 ghost use Rattle.book.specs.Shown.{Extends};
-ghost use Rattle.direct.specs.Known.{Definition, Interval, Known, Variable};
+ghost use Rattle.direct.specs.Known.{Interval, Known, Variable};
 ghost use Rattle.typed_nodes.specs.Typed.{IsTypeAt, IsTyped, Says};
 ghost use Rattle.typing_tasks.specs.States.{Inferred, State, finding, forgetting, inferring};
 ghost use Rattle.typing_tasks.specs.States.{nothing};

@@ -5,7 +5,6 @@ ghost use Rattle.trees.specs.Trees.{Tree};
 ghost use Rattle.trees.specs.Things.{ATree};
 ghost use Rattle.trees.specs.Judgements.{Context, WithVar};
 ghost use Rattle.trees.specs.Language.{Tm, Ty};
-ghost use Rattle.translation.specs.Terms.{universe};
 ghost use Rattle.direct.specs.Literal.{at};
 ghost use Rattle.book.specs.Contents.{Contents};
 ghost use Rattle.book.specs.Shown.{Extends, book_means};
