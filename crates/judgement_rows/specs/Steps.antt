@@ -79,7 +79,8 @@ abbrev pub Row : ℕ → State → Tree → Type 0
 Row row s t = Is s.means row t
 
 -- A type and a body were closed over variables of these types and claimed, and the body is kept.
-pub record Closed (old new : State) (p : Place) (number : ℕ) (types : List ℕ) (ty body : ℕ) : Type 0 where
+pub record Closed (old new : State) (p : Place) (number : ℕ) (types : List ℕ) (ty body : ℕ)
+    : Type 0 where
   pub closed_ty : ℕ
   pub closed_body : ℕ
   pub ty_is : (As : List Tree) (B : Tree) → Are old.means types As → Is old.means ty B

@@ -27,7 +27,8 @@ pub record LineSystemOf (f : Meanings) (y : System) (ss : List (On Tree)) : Type
   pub cover : Is f y.cover (cover ss)
   pub body : Is f y.body (line_body ss)
 
-pub record PairSystemOf (f : Meanings) (y : PairSystem) (ss : List (On (Tree × Tree))) : Type 0 where
+pub record PairSystemOf (f : Meanings) (y : PairSystem) (ss : List (On (Tree × Tree)))
+    : Type 0 where
   pub cover : Is f y.cover (cover ss)
   pub types : Is f y.types (body (types ss))
   pub equivalences : Is f y.equivalences (body (equivalences ss))
