@@ -40,7 +40,7 @@ fn is_binding(code: &Code) -> bool
     )
 }
 
-/// Whether it is formed of heads, numbers, or a line.
+/// Whether it is formed of a head or of numbers.
 fn is_compound(code: &Code) -> bool
     ensures { result ≡ compound_form code.now }
 {
