@@ -1,5 +1,5 @@
 -- What a book's nodes are after a rule is concluded, that they are provable, and the first of them.
-use Rattle.std.proofs.Common.{◌≡◌, ℕ, zero, suc, ◌<◌, ◌≤◌, inl, inr, List, [], ◌∷◌, ◌++◌, length, refl, sym, ◌∙◌, ap, subst, arith, Option, Some, length-append}
+use Rattle.std.proofs.Common.{◌≡◌, ℕ, zero, suc, ◌<◌, ◌≤◌, inl, inr, List, [], ◌∷◌, ◌++◌, length, refl, sym, ◌∙◌, ap, subst, arith, Option, Some, IsSome, length-append}
 use Rattle.std.specs.Prelude.{slice_get, option_and_then}
 use Rattle.std.specs.List.{All}
 use Rattle.std.proofs.lemmas.List.{append-nil}
@@ -22,13 +22,20 @@ use Rattle.book.specs.Contents.{Contents}
 use Rattle.book.specs.Nodes.{Node, node_coded, node_at, judgement_of, concluded}
 use Rattle.book.specs.Coded.{node_from}
 use Rattle.book.specs.Right.{IsUse, IsRight, AreRight}
-use Rattle.book.specs.Shown.{book_means, book_concludes, Extends}
+use Rattle.book.specs.Shown.{book_means, book_nodes, book_concludes, Extends}
 use Rattle.book.proofs.NodeLaws.{use-kept, concluded-kept, node_at-prefix}
 
 -- what a use of a rule concludes
 
 pub use-concludes : (f : Meanings) (g : ℕ → Option Judgement) (rule : RuleName) (parts premises : List ℕ) (J : Judgement) → IsUse f g rule parts premises J → conclusion_of (rule_over rule (meanings f parts)) ≡ Some J
 use-concludes f g rule parts premises J u = rw (u.parts_are, u.instance.is) (ap Some (sym u.instance.gives))
+
+-- a node that concludes something is there
+pub node-there : (b : Contents) (k : ℕ) (J : Judgement) → book_concludes b k ≡ Some J → IsSome (book_nodes b k)
+node-there b k J e =
+    let o = one-some (judgement_of (book_means b)) (node_at b.nodes k) J e in
+    let is = o.first_is in
+    rw is refl
 
 -- nodes that conclude something are there
 premises-there : (f : Meanings) (nodes : List (List ℕ)) (ks : List ℕ) (Js : List Judgement) → meanings (concluded f nodes) ks ≡ Some Js → All (λ j. j < length nodes) ks

@@ -1,5 +1,5 @@
 -- The uses of rules that the tests make.
-use Rattle.std.proofs.Common.{◌≡◌, ◌≤◌, ℕ, List, [], ◌∷◌, length, take, refl, sym, ◌∙◌, ap, ap₂, subst, arith, Option, Some, IsSome}
+use Rattle.std.proofs.Common.{◌≡◌, ◌≤◌, ℕ, List, [], ◌∷◌, length, take, refl, sym, ◌∙◌, ap, ap₂, subst, arith, Option, Some}
 use Rattle.std.proofs.Common.{zero as none, suc as more}
 use Rattle.std.specs.List.{All}
 use Rattle.std.proofs.lemmas.List.Elements.{All-nil, All-cons}
@@ -29,8 +29,7 @@ use Rattle.rows.proofs.OptionLaws.{one-some}
 use Rattle.theory.specs.declared.rule.RuleName.{RuleName}
 use Rattle.book.specs.Contents.{Contents}
 use Rattle.book.specs.Right.{IsUse}
-use Rattle.book.specs.Nodes.{node_at, judgement_of}
-use Rattle.book.specs.Shown.{book_means, book_nodes, book_concludes}
+use Rattle.book.specs.Shown.{book_means, book_concludes}
 use Rattle.book.specs.Tests.{things_in, Follows}
 
 judged-things : (f : JudgementForm) (xs : List Thing) (J : Judgement) → judged f xs ≡ Some J → xs ≡ things_in J
@@ -162,13 +161,6 @@ module _ (b : Contents) (domain body : ℕ) (G : Context) (A t B : Tree) (d : bo
 
   pub lam-shifts : ShiftsFit (meanings f parts)
   lam-shifts = subst ShiftsFit (sym lam-parts) (All-cons ShiftFits (AContext G) (ATree A ∷ ATree t ∷ ATree B ∷ []) tt (All-cons ShiftFits (ATree A) (ATree t ∷ ATree B ∷ []) tt (All-cons ShiftFits (ATree t) (ATree B ∷ []) tt (All-cons ShiftFits (ATree B) [] tt (All-nil ShiftFits)))))
-
--- a node that concludes something is there
-pub node-there : (b : Contents) (k : ℕ) (J : Judgement) → book_concludes b k ≡ Some J → IsSome (book_nodes b k)
-node-there b k J e =
-    let o = one-some (judgement_of (book_means b)) (node_at b.nodes k) J e in
-    let is = o.first_is in
-    rw is refl
 
 -- the same of lists that are these
 

@@ -20,7 +20,7 @@ use Rattle.kan_tests.specs.Fillings.{raised_statement, extension_parts, of_fiber
 use Rattle.recipes.specs.Statements.{Statement}
 use Rattle.recipes.specs.Made.{ShiftIsAtMost, greatest_part_shift}
 use Rattle.recipes.specs.Derivations.{MayStandAt, premises_at, conclusions_at}
-use Rattle.book.proofs.TestLaws.{node-there}
+use Rattle.book.proofs.BookLaws.{node-there}
 
 -- a context and trees have no shifts
 trees-fit : (ts : List Tree) → All (ShiftIsAtMost greatest_part_shift) (map ATree ts)

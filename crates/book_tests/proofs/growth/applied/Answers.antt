@@ -5,7 +5,7 @@ use Rattle.trees.specs.Judgements.{trees}
 use Rattle.trees.specs.Things.{AContext, ATree}
 use Rattle.rules.specs.Table.{app}
 use Rattle.book.specs.Shown.{book_means}
-use Rattle.book.proofs.TestLaws.{node-there}
+use Rattle.book.proofs.BookLaws.{node-there}
 use Rattle.recipe_runner.proofs.BuildLaws.{claim-field}
 use Rattle.recipe_runner.proofs.RunLaws.{extends-further}
 use Rattle.book_tests.specs.Stated.{function_said, number_said, of_variables}

@@ -5,7 +5,8 @@ use Rattle.theory.specs.declared.rule.NatRule.TheVariants.{Suc}
 use Rattle.trees.specs.Judgements.{trees}
 use Rattle.rules.specs.Table.{suc}
 use Rattle.book.specs.Tests.{things_in}
-use Rattle.book.proofs.TestLaws.{node-there, suc-follows, follows-along, follows-shifts}
+use Rattle.book.proofs.BookLaws.{node-there}
+use Rattle.book.proofs.TestLaws.{suc-follows, follows-along, follows-shifts}
 use Rattle.book_tests.specs.Stated.{number_said, of_variables}
 use Rattle.book_tests.proofs.RunLaws.{claim-places}
 use Rattle.book_tests.proofs.growth.next.Goals as goal

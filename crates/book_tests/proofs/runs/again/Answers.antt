@@ -3,7 +3,7 @@ use Rattle.std.specs.Prelude.{slice_index}
 use Rattle.trees.specs.Things.{meanings}
 use Rattle.book.specs.Shown.{book_means, book_concludes}
 use Rattle.book.specs.Tests.{things_in}
-use Rattle.book.proofs.TestLaws.{node-there}
+use Rattle.book.proofs.BookLaws.{node-there}
 use Rattle.book_tests.specs.Stated.{earlier, zeroing}
 use Rattle.book_tests.specs.declared.twice.TheConstants.{TWICE, TWICE_GIVES}
 use Rattle.book_tests.proofs.RunLaws.{parts-there, claim-places, may-do-twice, first}

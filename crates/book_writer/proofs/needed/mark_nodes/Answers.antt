@@ -3,7 +3,7 @@ use Rattle.std.specs.List.{All}
 use Rattle.std.proofs.lemmas.List.Elements.{All-weaker}
 use Rattle.rows.proofs.MeaningLaws.{is_some-value}
 use Rattle.book.specs.Shown.{book_means, book_concludes}
-use Rattle.book.proofs.TestLaws.{node-there}
+use Rattle.book.proofs.BookLaws.{node-there}
 use Rattle.book_writer.specs.Served.{Marks}
 use Rattle.book_writer.proofs.PlaceLaws.{all-low}
 use Rattle.book_writer.proofs.NeededLaws.{nodes-start, nodes-on, nodes-skip, nodes-end, unmarked}

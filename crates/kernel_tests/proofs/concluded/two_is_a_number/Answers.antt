@@ -1,7 +1,8 @@
 use Rattle.trees.specs.Judgements.{Nil, trees}
 use Rattle.trees.specs.Language.{Tm}
 use Rattle.rules.specs.Table.{nat, zero, suc}
-use Rattle.book.proofs.TestLaws.{zero-follows, suc-follows, node-there}
+use Rattle.book.proofs.BookLaws.{node-there}
+use Rattle.book.proofs.TestLaws.{zero-follows, suc-follows}
 use Rattle.kernel_tests.proofs.concluded.two_is_a_number.Goals as goal
 
 pub follow-requires : goal.follow-requires
