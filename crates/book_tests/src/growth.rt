@@ -1,6 +1,6 @@
 //! Derivations that grow by one rule, again and again, over terms that have variables.
 
-ghost use Rattle.std.specs.Prelude.{◌≡◌, ◌≤◌, IfOk, Some, length};
+ghost use Rattle.std.specs.Prelude.{◌≡◌, IfOk, Some};
 ghost use Rattle.trees.specs.Trees.{Tree};
 ghost use Rattle.book.specs.Shown.{book_concludes, Extends};
 ghost use Rattle.book_tests.specs.Stated.{function_said, number_said};
@@ -12,18 +12,6 @@ use book_writer::write;
 use rows::Maker;
 use std::alloc::{AllocError, Global};
 use theory::{NatRule, Op, PiRule, RuleName};
-
-/// The list of these numbers.
-fn few_of(numbers: &[u64]) -> Few
-    requires { length numbers.now ≤ 16 }
-    ensures { result ≡ numbers.now }
-{
-    let mut few = Few::new();
-    for number in numbers {
-        few.push(*number);
-    }
-    few
-}
 
 /// A function of numbers and a number, which are variables.
 fn variables(book: &mut Book) -> Result<(NodeId, NodeId), AllocError>
@@ -47,8 +35,8 @@ fn next(book: &mut Book, number: NodeId) -> Result<NodeId, AllocError>
     let rows = book.conclusion(number).rows();
     Ok(book.conclude(&RuleUse {
         rule: RuleName::Naturals(NatRule::Suc),
-        parts: few_of(rows.as_slice().split_at(2).0),
-        premises: few_of(&[number.0]),
+        parts: Few::of(rows.as_slice().split_at(2).0),
+        premises: Few::of(&[number.0]),
     })?)
 }
 
@@ -66,8 +54,8 @@ fn applied(book: &mut Book, function: NodeId, number: NodeId) -> Result<NodeId, 
     let ty = book.make(Op::Nat, &[])?;
     Ok(book.conclude(&RuleUse {
         rule: RuleName::Pi(PiRule::App),
-        parts: few_of(&[of_function[0], of_function[1], of_number[1], ty, ty]),
-        premises: few_of(&[function.0, number.0]),
+        parts: Few::of(&[of_function[0], of_function[1], of_number[1], ty, ty]),
+        premises: Few::of(&[function.0, number.0]),
     })?)
 }
 

@@ -35,18 +35,6 @@ pub struct Call {
     pub step: Derive,
 }
 
-/// The list of these numbers.
-fn few_of(numbers: &[u64]) -> Few
-    requires { length numbers.now ≤ 16 }
-    ensures { result ≡ numbers.now }
-{
-    let mut few = Few::new();
-    for number in numbers {
-        few.push(*number);
-    }
-    few
-}
-
 /// A call at these parts, of these nodes, of which the first is that of the context.
 fn call_of(parts: Few, nodes: &[u64]) -> Call
     requires some { 0 < length nodes.now }
@@ -59,7 +47,7 @@ fn call_of(parts: Few, nodes: &[u64]) -> Call
         ctx: NodeId(first[0]),
         step: Derive {
             parts,
-            premises: few_of(rest),
+            premises: Few::of(rest),
         },
     }
 }
@@ -91,7 +79,7 @@ fn parts(book: &mut Book) -> Result<Few, AllocError>
     let face = book.make(Op::Eq0, &[end])?;
     let line = book.make(Op::Nat, &[])?;
     let base = book.make(Op::Zero, &[])?;
-    Ok(few_of(&[ctx, line, face, base, base, end]))
+    Ok(Few::of(&[ctx, line, face, base, base, end]))
 }
 
 /// Such a filling, as a call.
@@ -147,7 +135,7 @@ fn moved_parts(book: &mut Book) -> Result<Few, AllocError>
     let same = book.make(Op::Lam, &[line, end])?;
     let face = book.make(Op::Eq0, &[end])?;
     let base = book.make(Op::Zero, &[])?;
-    Ok(few_of(&[ctx, line, line, same, face, base, base]))
+    Ok(Few::of(&[ctx, line, line, same, face, base, base]))
 }
 
 /// Such a preservation, as a call.
@@ -177,7 +165,7 @@ fn contracted_parts(book: &mut Book, ctx: u64) -> Result<Few, AllocError>
     let element = book.var(0)?;
     let end = book.var(3)?;
     let face = book.make(Op::Eq0, &[end])?;
-    Ok(few_of(&[ctx, ty, centre, face, element]))
+    Ok(Few::of(&[ctx, ty, centre, face, element]))
 }
 
 /// Such a contraction, as a call.
@@ -209,7 +197,7 @@ fn raised_parts(book: &mut Book, ctx: u64) -> Result<Few, AllocError>
     let element = book.var(0)?;
     let end = book.var(2)?;
     let face = book.make(Op::Eq0, &[end])?;
-    Ok(few_of(&[ctx, ty, ty, equivalence, face, element, point]))
+    Ok(Few::of(&[ctx, ty, ty, equivalence, face, element, point]))
 }
 
 /// Such an extension, as a call.

@@ -50,7 +50,7 @@ conclude-requires-clause-right c =
     let ctx_is = keeps _ _ (ap (λ ns. book_means b (slice_index ns 0)) of_function ∙ ctx.is) in
     let function_is = keeps _ _ (ap (λ ns. book_means b (slice_index ns 1)) of_function ∙ function.is) in
     let number_is = keeps _ _ (ap (λ ns. book_means b (slice_index ns 1)) of_number ∙ number.is) in
-    (number_said (app trees (Var 1) t), app-use c.make.new.self c.args.function.0 c.args.number.0 t _ _ _ c.in_ok-ty.ty ctx_is function_is number_is c.in_ok-ty.ensures.meaning c.few_of.result c.few_of.ensures c.few_of-2.result c.few_of-2.ensures (c.make.ensures.extends.conclusions _ _ c.requires.function) (c.make.ensures.extends.conclusions _ _ c.requires.number.1))
+    (number_said (app trees (Var 1) t), app-use c.make.new.self c.args.function.0 c.args.number.0 t _ _ _ c.in_ok-ty.ty ctx_is function_is number_is c.in_ok-ty.ensures.meaning c.of.result c.of.ensures c.of-2.result c.of-2.ensures (c.make.ensures.extends.conclusions _ _ c.requires.function) (c.make.ensures.extends.conclusions _ _ c.requires.number.1))
 
 pub conclude-requires-clause-shifts : goal.conclude-requires-clause-shifts
 conclude-requires-clause-shifts c =
@@ -65,7 +65,7 @@ conclude-requires-clause-shifts c =
     let ctx_is = keeps _ _ (ap (λ ns. book_means b (slice_index ns 0)) of_function ∙ ctx.is) in
     let function_is = keeps _ _ (ap (λ ns. book_means b (slice_index ns 1)) of_function ∙ function.is) in
     let number_is = keeps _ _ (ap (λ ns. book_means b (slice_index ns 1)) of_number ∙ number.is) in
-    app-shifts c.make.new.self c.args.function.0 c.args.number.0 t _ _ _ c.in_ok-ty.ty ctx_is function_is number_is c.in_ok-ty.ensures.meaning c.few_of.result c.few_of.ensures
+    app-shifts c.make.new.self c.args.function.0 c.args.number.0 t _ _ _ c.in_ok-ty.ty ctx_is function_is number_is c.in_ok-ty.ensures.meaning c.of.result c.of.ensures
 
 pub returns-clause-concludes : goal.returns-clause-concludes
 returns-clause-concludes c =
@@ -80,7 +80,7 @@ returns-clause-concludes c =
     let ctx_is = keeps _ _ (ap (λ ns. book_means b (slice_index ns 0)) of_function ∙ ctx.is) in
     let function_is = keeps _ _ (ap (λ ns. book_means b (slice_index ns 1)) of_function ∙ function.is) in
     let number_is = keeps _ _ (ap (λ ns. book_means b (slice_index ns 1)) of_number ∙ number.is) in
-    (app trees (Var 1) t, c.in_ok-conclude.ensures.concludes _ (app-use c.make.new.self c.args.function.0 c.args.number.0 t _ _ _ c.in_ok-ty.ty ctx_is function_is number_is c.in_ok-ty.ensures.meaning c.few_of.result c.few_of.ensures c.few_of-2.result c.few_of-2.ensures (c.make.ensures.extends.conclusions _ _ c.requires.function) (c.make.ensures.extends.conclusions _ _ c.requires.number.1)))
+    (app trees (Var 1) t, c.in_ok-conclude.ensures.concludes _ (app-use c.make.new.self c.args.function.0 c.args.number.0 t _ _ _ c.in_ok-ty.ty ctx_is function_is number_is c.in_ok-ty.ensures.meaning c.of.result c.of.ensures c.of-2.result c.of-2.ensures (c.make.ensures.extends.conclusions _ _ c.requires.function) (c.make.ensures.extends.conclusions _ _ c.requires.number.1)))
 
 pub returns-clause-extends : goal.returns-clause-extends
 returns-clause-extends c = extends-further c.args.book.now c.make.new.self c.conclude.new.self c.make.ensures.extends c.conclude.ensures.extends

@@ -19,8 +19,8 @@ split_at-requires c =
     let three : length (things_in (number_said c.requires.0)) ≡ 3 = refl in
     omega (arith, three, claim-places c.args.book.now c.conclusion.result (number_said c.requires.0) (c.conclusion.ensures ∙ c.requires.1), ap length (c.as_slice.ensures ∙ c.rows-rows.ensures))
 
-pub few_of-requires : goal.few_of-requires
-few_of-requires c = omega (arith, ap length c.split_at.ensures.front, length-take-le 2 c.as_slice.result.now)
+pub of-requires : goal.of-requires
+of-requires c = omega (arith, ap length c.split_at.ensures.front, length-take-le 2 c.as_slice.result.now)
 
 pub conclude-requires-clause-right : goal.conclude-requires-clause-right
 conclude-requires-clause-right c =
@@ -28,14 +28,14 @@ conclude-requires-clause-right c =
     let t = c.requires.0 in
     let K = number_said (suc trees t) in
     let u = suc-follows b c.args.number.0 (of_variables trees) t c.requires.1 in
-    (K, follows-along b (Naturals Suc) 2 c.args.number.0 K u c.conclusion.result c.conclusion.ensures c.few_of.result (c.few_of.ensures ∙ c.split_at.ensures.front ∙ ap (take 2) (c.as_slice.ensures ∙ c.rows-rows.ensures)) c.few_of-2.result c.few_of-2.ensures)
+    (K, follows-along b (Naturals Suc) 2 c.args.number.0 K u c.conclusion.result c.conclusion.ensures c.of.result (c.of.ensures ∙ c.split_at.ensures.front ∙ ap (take 2) (c.as_slice.ensures ∙ c.rows-rows.ensures)) c.of-2.result c.of-2.ensures)
 
 pub conclude-requires-clause-shifts : goal.conclude-requires-clause-shifts
 conclude-requires-clause-shifts c =
     let b = c.args.book.now in
     let t = c.requires.0 in
     let u = suc-follows b c.args.number.0 (of_variables trees) t c.requires.1 in
-    follows-shifts b (Naturals Suc) 2 c.args.number.0 (number_said (suc trees t)) u c.conclusion.result c.conclusion.ensures c.few_of.result (c.few_of.ensures ∙ c.split_at.ensures.front ∙ ap (take 2) (c.as_slice.ensures ∙ c.rows-rows.ensures))
+    follows-shifts b (Naturals Suc) 2 c.args.number.0 (number_said (suc trees t)) u c.conclusion.result c.conclusion.ensures c.of.result (c.of.ensures ∙ c.split_at.ensures.front ∙ ap (take 2) (c.as_slice.ensures ∙ c.rows-rows.ensures))
 
 pub returns : goal.returns
 returns c =
@@ -43,4 +43,4 @@ returns c =
     let t = c.requires.0 in
     let K = number_said (suc trees t) in
     let u = suc-follows b c.args.number.0 (of_variables trees) t c.requires.1 in
-    (suc trees t, c.in_ok-conclude.ensures.concludes K (follows-along b (Naturals Suc) 2 c.args.number.0 K u c.conclusion.result c.conclusion.ensures c.few_of.result (c.few_of.ensures ∙ c.split_at.ensures.front ∙ ap (take 2) (c.as_slice.ensures ∙ c.rows-rows.ensures)) c.few_of-2.result c.few_of-2.ensures))
+    (suc trees t, c.in_ok-conclude.ensures.concludes K (follows-along b (Naturals Suc) 2 c.args.number.0 K u c.conclusion.result c.conclusion.ensures c.of.result (c.of.ensures ∙ c.split_at.ensures.front ∙ ap (take 2) (c.as_slice.ensures ∙ c.rows-rows.ensures)) c.of-2.result c.of-2.ensures))

@@ -16,7 +16,7 @@ returns-clause-parts c =
     let to_element = c.var-3.ensures.kept.keeps in
     let to_end = c.var-4.ensures.kept.keeps in
     let to_face = c.make.ensures.kept.keeps in
-    ap (meanings (book_means book)) c.few_of.ensures
+    ap (meanings (book_means book)) c.of.ensures
     ∙ contracted-parts-are (book_means book) c.args.ctx c.in_ok-ty.ty c.in_ok-centre.centre c.in_ok-face.face c.in_ok-element.element
     (to_face _ _ (to_end _ _ (to_element _ _ (to_centre _ _ (to_ty _ _ c.requires)))))
     (to_face _ _ (to_end _ _ (to_element _ _ (to_centre _ _ c.in_ok-ty.ensures.meaning))))

@@ -23,7 +23,7 @@ returns c =
     let end = c.in_ok-end.ensures.meaning in
     let same = c.in_ok-same.ensures.meaning ∙ made-of-two (book_means c.var.new.self) op.Lam c.in_ok-line.line c.in_ok-end.end (ATree (nat trees)) (ATree (Var 0)) line end in
     let face = c.in_ok-face.ensures.meaning ∙ made-of-one (book_means c.make-2.new.self) op.Eq0 c.in_ok-end.end (ATree (Var 0)) (to_same _ _ end) in
-    ap (meanings (book_means book)) c.few_of.ensures
+    ap (meanings (book_means book)) c.of.ensures
     ∙ moved-parts-are (book_means book) c.in_ok-ctx.ctx c.in_ok-line.line c.in_ok-same.same c.in_ok-face.face c.in_ok-base.base
     (to_base _ _ (to_face _ _ (to_same _ _ (to_end _ _ (to_line _ _ ctx)))))
     (to_base _ _ (to_face _ _ (to_same _ _ line)))

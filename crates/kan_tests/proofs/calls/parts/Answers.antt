@@ -18,7 +18,7 @@ returns c =
     let to_face = c.make.ensures.kept.keeps in
     let to_line = c.make-2.ensures.kept.keeps in
     let to_base = c.make-3.ensures.kept.keeps in
-    ap (meanings (book_means book)) c.few_of.ensures
+    ap (meanings (book_means book)) c.of.ensures
     ∙ parts-are (book_means book) c.in_ok-ctx.ctx c.in_ok-line.line c.in_ok-face.face c.in_ok-base.base c.in_ok-end.end
     (to_base _ _ (to_line _ _ (to_face _ _ (to_end _ _ ctx))))
     (to_base _ _ c.in_ok-line.ensures.meaning)
