@@ -21,7 +21,7 @@ pub enum Status {
     Usage,
     /// A read or a write failed.
     Fault,
-    /// A question reached its budget.
+    /// A question reached its budget. No command answers this yet.
     Spent,
     /// It was out of memory.
     Memory,
@@ -48,6 +48,7 @@ pub(crate) enum Outcome {
     Usage,
 }
 
+/// It names the commands of the whole program, also those that are not built yet.
 const USAGE: &str = "usage: ctt check MODULE [--turns N] [--json] | replay FILE [--of MODULE] | \
      normal MODULE NAME [--turns N] | prompt MODULE [--turns N] | make N\n";
 
