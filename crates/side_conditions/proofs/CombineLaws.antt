@@ -16,7 +16,7 @@ use Rattle.side_conditions.specs.declared.reading.Reading.{Reading}
 use Rattle.side_conditions.specs.declared.reading.Reading.TheVariants as reading
 use Rattle.conditions.specs.Sides.{is_name, is_formula, is_face, value, is_true}
 use Rattle.side_conditions.specs.Levels.{count_indices, point_by_index}
-use Rattle.side_conditions.specs.Readings.{IsFormOf, IsFaceOf, IsReadingOf, is_readable, form_in, face_in}
+use Rattle.side_conditions.specs.Readings.{IsFormOf, IsFaceOf, IsKindOf, IsValueOf, is_readable, form_in, face_in}
 use Rattle.side_conditions.proofs.LevelLaws.{by_index-at, valuation-by_index, free-by_index}
 
 -- no tree is both
@@ -39,7 +39,7 @@ name_reading G k level form e count name = record {
   value_is = λ v. e v ∙ sym (by_index-at free_value (count_indices G) v k level count);
 }
 
-pub neg_reading : (kid : Reading) (form new : List (List Literal)) → Some form ≡ form_in kid → ((v : Valuation) → form_value new v ≡ negation (form_value form v)) → (G : Context) (t : Tree) → IsReadingOf G t kid → IsFormOf G (Make op.Neg (More t NoTrees)) new
+pub neg_reading : (kid : Reading) (form new : List (List Literal)) → Some form ≡ form_in kid → ((v : Valuation) → form_value new v ≡ negation (form_value form v)) → (G : Context) (t : Tree) → IsValueOf G t kid → IsFormOf G (Make op.Neg (More t NoTrees)) new
 neg_reading (reading.Form old) form new is e G t r =
     let same : form ≡ old = cc in
     record { is_one = r.is_one; value_is = λ v. e v ∙ ap (λ f. negation (form_value f v)) same ∙ ap negation (r.value_is v) }
@@ -48,19 +48,19 @@ neg_reading (reading.Face face) form new is e G t r = cc
 value_by_point : (G : Context) (t : Tree) (form : List (List Literal)) → IsFormOf G t form → (x : Point) → form_value form (valuation_of x) ≡ value (valuation_of (point_by_index G x)) t
 value_by_point G t form r x = r.value_is (valuation_of x) ∙ ap (λ v. value v t) (sym (valuation-by_index (count_indices G) x))
 
-pub is_zero_reading : (kid : Reading) (form : List (List Literal)) (new : List (List Equation)) → Some form ≡ form_in kid → ((x : Point) → face_truth new x ≡ equals_end (form_value form (valuation_of x)) false) → (G : Context) (t : Tree) → IsReadingOf G t kid → IsFaceOf G (Make op.Eq0 (More t NoTrees)) new
+pub is_zero_reading : (kid : Reading) (form : List (List Literal)) (new : List (List Equation)) → Some form ≡ form_in kid → ((x : Point) → face_truth new x ≡ equals_end (form_value form (valuation_of x)) false) → (G : Context) (t : Tree) → IsValueOf G t kid → IsFaceOf G (Make op.Eq0 (More t NoTrees)) new
 is_zero_reading (reading.Form old) form new is e G t r =
     let same : form ≡ old = cc in
     record { is_one = r.is_one; truth_is = λ x. e x ∙ ap (λ f. (form_value f (valuation_of x)).fails) same ∙ ap (λ (v : Value). v.fails) (value_by_point G t old r x) }
 is_zero_reading (reading.Face face) form new is e G t r = cc
 
-pub is_one_reading : (kid : Reading) (form : List (List Literal)) (new : List (List Equation)) → Some form ≡ form_in kid → ((x : Point) → face_truth new x ≡ equals_end (form_value form (valuation_of x)) true) → (G : Context) (t : Tree) → IsReadingOf G t kid → IsFaceOf G (Make op.Eq1 (More t NoTrees)) new
+pub is_one_reading : (kid : Reading) (form : List (List Literal)) (new : List (List Equation)) → Some form ≡ form_in kid → ((x : Point) → face_truth new x ≡ equals_end (form_value form (valuation_of x)) true) → (G : Context) (t : Tree) → IsValueOf G t kid → IsFaceOf G (Make op.Eq1 (More t NoTrees)) new
 is_one_reading (reading.Form old) form new is e G t r =
     let same : form ≡ old = cc in
     record { is_one = r.is_one; truth_is = λ x. e x ∙ ap (λ f. (form_value f (valuation_of x)).holds) same ∙ ap (λ (v : Value). v.holds) (value_by_point G t old r x) }
 is_one_reading (reading.Face face) form new is e G t r = cc
 
-pub all_reading : (kid : Reading) (face new : List (List Equation)) (level : ℕ) → Some face ≡ face_in kid → ((x : Point) → face_truth new x ≡ face_truth face (with_free level x)) → (G : Context) (t : Tree) → level ≡ count_indices G → IsReadingOf (WithName G) t kid → IsFaceOf G (Make op.All (More t NoTrees)) new
+pub all_reading : (kid : Reading) (face new : List (List Equation)) (level : ℕ) → Some face ≡ face_in kid → ((x : Point) → face_truth new x ≡ face_truth face (with_free level x)) → (G : Context) (t : Tree) → level ≡ count_indices G → IsValueOf (WithName G) t kid → IsFaceOf G (Make op.All (More t NoTrees)) new
 all_reading (reading.Form form) face new level is e G t count r = cc
 all_reading (reading.Face old) face new level is e G t count r =
     let same : face ≡ old = cc in
@@ -73,7 +73,7 @@ all_reading (reading.Face old) face new level is e G t count r =
           ∙ ap (λ y. is_true y t) (free-by_index (count_indices G) x);
     }
 
-pub min_reading : (left right : Reading) (a b new : List (List Literal)) → Some a ≡ form_in left → Some b ≡ form_in right → ((v : Valuation) → form_value new v ≡ meet (form_value a v) (form_value b v)) → (G : Context) (s t : Tree) → IsReadingOf G s left → IsReadingOf G t right → IsFormOf G (Make op.Min (More s (More t NoTrees))) new
+pub min_reading : (left right : Reading) (a b new : List (List Literal)) → Some a ≡ form_in left → Some b ≡ form_in right → ((v : Valuation) → form_value new v ≡ meet (form_value a v) (form_value b v)) → (G : Context) (s t : Tree) → IsValueOf G s left → IsValueOf G t right → IsFormOf G (Make op.Min (More s (More t NoTrees))) new
 min_reading (reading.Form f) (reading.Form g) a b new p q e G s t l r =
     let same : a ≡ f = cc in
     let also : b ≡ g = cc in
@@ -84,7 +84,7 @@ min_reading (reading.Form f) (reading.Form g) a b new p q e G s t l r =
 min_reading (reading.Form f) (reading.Face g) a b new p q e G s t l r = cc
 min_reading (reading.Face f) right a b new p q e G s t l r = cc
 
-pub max_reading : (left right : Reading) (a b new : List (List Literal)) → Some a ≡ form_in left → Some b ≡ form_in right → ((v : Valuation) → form_value new v ≡ join (form_value a v) (form_value b v)) → (G : Context) (s t : Tree) → IsReadingOf G s left → IsReadingOf G t right → IsFormOf G (Make op.Max (More s (More t NoTrees))) new
+pub max_reading : (left right : Reading) (a b new : List (List Literal)) → Some a ≡ form_in left → Some b ≡ form_in right → ((v : Valuation) → form_value new v ≡ join (form_value a v) (form_value b v)) → (G : Context) (s t : Tree) → IsValueOf G s left → IsValueOf G t right → IsFormOf G (Make op.Max (More s (More t NoTrees))) new
 max_reading (reading.Form f) (reading.Form g) a b new p q e G s t l r =
     let same : a ≡ f = cc in
     let also : b ≡ g = cc in
@@ -95,7 +95,7 @@ max_reading (reading.Form f) (reading.Form g) a b new p q e G s t l r =
 max_reading (reading.Form f) (reading.Face g) a b new p q e G s t l r = cc
 max_reading (reading.Face f) right a b new p q e G s t l r = cc
 
-pub meet_reading : (left right : Reading) (a b new : List (List Equation)) → Some a ≡ face_in left → Some b ≡ face_in right → ((x : Point) → face_truth new x ≡ (face_truth a x && face_truth b x)) → (G : Context) (s t : Tree) → IsReadingOf G s left → IsReadingOf G t right → IsFaceOf G (Make op.Meet (More s (More t NoTrees))) new
+pub meet_reading : (left right : Reading) (a b new : List (List Equation)) → Some a ≡ face_in left → Some b ≡ face_in right → ((x : Point) → face_truth new x ≡ (face_truth a x && face_truth b x)) → (G : Context) (s t : Tree) → IsValueOf G s left → IsValueOf G t right → IsFaceOf G (Make op.Meet (More s (More t NoTrees))) new
 meet_reading (reading.Face f) (reading.Face g) a b new p q e G s t l r =
     let same : a ≡ f = cc in
     let also : b ≡ g = cc in
@@ -106,7 +106,7 @@ meet_reading (reading.Face f) (reading.Face g) a b new p q e G s t l r =
 meet_reading (reading.Face f) (reading.Form g) a b new p q e G s t l r = cc
 meet_reading (reading.Form f) right a b new p q e G s t l r = cc
 
-pub join_reading : (left right : Reading) (a b new : List (List Equation)) → Some a ≡ face_in left → Some b ≡ face_in right → ((x : Point) → face_truth new x ≡ (face_truth a x || face_truth b x)) → (G : Context) (s t : Tree) → IsReadingOf G s left → IsReadingOf G t right → IsFaceOf G (Make op.Join (More s (More t NoTrees))) new
+pub join_reading : (left right : Reading) (a b new : List (List Equation)) → Some a ≡ face_in left → Some b ≡ face_in right → ((x : Point) → face_truth new x ≡ (face_truth a x || face_truth b x)) → (G : Context) (s t : Tree) → IsValueOf G s left → IsValueOf G t right → IsFaceOf G (Make op.Join (More s (More t NoTrees))) new
 join_reading (reading.Face f) (reading.Face g) a b new p q e G s t l r =
     let same : a ≡ f = cc in
     let also : b ≡ g = cc in
@@ -119,15 +119,15 @@ join_reading (reading.Form f) right a b new p q e G s t l r = cc
 
 -- a kid of the wrong kind
 
-pub no_form : (kid : Reading) → None ≡ form_in kid → (G : Context) (t : Tree) → IsReadingOf G t kid → is_formula G t ≡ true → ⊥
+pub no_form : (kid : Reading) → None ≡ form_in kid → (G : Context) (t : Tree) → IsKindOf G t kid → is_formula G t ≡ true → ⊥
 no_form (reading.Form form) none G t r h = cc
-no_form (reading.Face face) none G t r h = apart G t h r.is_one
+no_form (reading.Face face) none G t r h = apart G t h r
 
-pub no_face : (kid : Reading) → None ≡ face_in kid → (G : Context) (t : Tree) → IsReadingOf G t kid → is_face G t ≡ true → ⊥
-no_face (reading.Form form) none G t r h = apart G t r.is_one h
+pub no_face : (kid : Reading) → None ≡ face_in kid → (G : Context) (t : Tree) → IsKindOf G t kid → is_face G t ≡ true → ⊥
+no_face (reading.Form form) none G t r h = apart G t r h
 no_face (reading.Face face) none G t r h = cc
 
-pub neg_unread : (kid : Reading) → None ≡ form_in kid → (G : Context) (t : Tree) → IsReadingOf G t kid → IsTrue (is_readable G (Make op.Neg (More t NoTrees))) → ⊥
+pub neg_unread : (kid : Reading) → None ≡ form_in kid → (G : Context) (t : Tree) → IsKindOf G t kid → IsTrue (is_readable G (Make op.Neg (More t NoTrees))) → ⊥
 neg_unread kid none G t r h = no_form kid none G t r (first_or (is_formula G t) h)
 
 pub min_unread : (G : Context) (s t : Tree) → (is_formula G s ≡ true → is_formula G t ≡ true → ⊥) → IsTrue (is_readable G (Make op.Min (More s (More t NoTrees)))) → ⊥
@@ -142,3 +142,12 @@ max_unread G s t never h =
 
 pub faces_unread : (G : Context) (s t : Tree) → (is_face G s ≡ true → is_face G t ≡ true → ⊥) → (is_face G s && is_face G t) ≡ true → ⊥
 faces_unread G s t never h = let both = and_parts (is_face G s) (is_face G t) h in never both.0 both.1
+
+-- kinds of kids
+pub formula_kind : (kid : Reading) (form : List (List Literal)) → Some form ≡ form_in kid → (G : Context) (t : Tree) → IsKindOf G t kid → is_formula G t ≡ true
+formula_kind (reading.Form old) form is G t k = k
+formula_kind (reading.Face face) form is G t k = cc
+
+pub face_kind : (kid : Reading) (face : List (List Equation)) → Some face ≡ face_in kid → (G : Context) (t : Tree) → IsKindOf G t kid → is_face G t ≡ true
+face_kind (reading.Form form) face is G t k = cc
+face_kind (reading.Face old) face is G t k = k

@@ -23,8 +23,8 @@ use Rattle.side_conditions.proofs.OpeningLaws.{is_name-indices, indices-with_nam
 pub count-with_names : (n : ℕ) (G : Context) → count_indices (with_names n G) ≡ n + length (indices G)
 count-with_names n G = ap length (indices-with_names n G) ∙ length-with_bound n (indices G)
 
-pub name_combined : (table : Table) (count level : ℕ) (r : Reading) → ((G : Context) (k : ℕ) → count_indices G ≡ suc (level + k) → IsTrue (is_name G k) → IsReadingOf G (Var k) r) → IsCombined table count (shape.Name level) (Some r)
-name_combined table count level r read G depth at e fits right =
+pub name_combined : (Valued : Type 0) (table : Table) (count level : ℕ) (r : Reading) → ((G : Context) (k : ℕ) → count_indices G ≡ suc (level + k) → IsTrue (is_name G k) → IsReadingOf Valued G (Var k) r) → IsCombined Valued table count (shape.Name level) (Some r)
+name_combined Valued table count level r read G depth at e fits right =
     let H = with_names depth G in
     let k = count - suc level in
     let n = count-with_names depth G in
@@ -39,8 +39,8 @@ name_combined table count level r read G depth at e fits right =
     counted : (here all : ℕ) → here ≡ all → count ≡ all → level < all → here ≡ suc (level + (count - suc level))
     counted here all p q lt = omega arith
 
-pub nullary_combined : (table : Table) (count : ℕ) (c : Nullary) (r : Reading) → ((G : Context) → IsReadingOf G (Make (nullary_op c) NoTrees) r) → IsCombined table count (shape.Nullary c) (Some r)
-nullary_combined table count c r read G depth at e fits right = read (with_names depth G)
+pub nullary_combined : (Valued : Type 0) (table : Table) (count : ℕ) (c : Nullary) (r : Reading) → ((G : Context) → IsReadingOf Valued G (Make (nullary_op c) NoTrees) r) → IsCombined Valued table count (shape.Nullary c) (Some r)
+nullary_combined Valued table count c r read G depth at e fits right = read (with_names depth G)
 
 within-depth : (G : Context) (c : Unary) (depth here : ℕ) → here ≡ bound_by c + depth → with_names here G ≡ within c (with_names depth G)
 within-depth G unary.Neg depth here e = let s : here ≡ depth = omega arith in ap (λ n. with_names n G) s
@@ -97,24 +97,24 @@ readable_binary G at depth binary.Join k l h = both_faces (with_names depth G) (
 
 -- the shapes with kids
 
-pub unary_combined : (table : Table) (count : ℕ) (c : Unary) (k : Subtree) (o : Option Reading) (kid : Reading) (found : Option Reading) → Some o ≡ table k → o ≡ Some kid → ((G : Context) (t : Tree) → count ≡ count_indices G → IsReadingOf (within c G) t kid → Reads G (Make (unary_op c) (More t NoTrees)) found) → IsCombined table count (shape.Unary c k) found
-unary_combined table count c k o kid found there is read G depth at e fits right =
+pub unary_combined : (Valued : Type 0) (table : Table) (count : ℕ) (c : Unary) (k : Subtree) (o : Option Reading) (kid : Reading) (found : Option Reading) → Some o ≡ table k → o ≡ Some kid → ((G : Context) (t : Tree) → count ≡ count_indices G → IsReadingOf Valued (within c G) t kid → Reads Valued G (Make (unary_op c) (More t NoTrees)) found) → IsCombined Valued table count (shape.Unary c k) found
+unary_combined Valued table count c k o kid found there is read G depth at e fits right =
     read (with_names depth G) (at k) (e ∙ sym (count-with_names depth G))
-    (subst (λ H. IsReadingOf H (at k) kid) (within-depth G c depth k.depth fits) (right k (Some kid) (sym there ∙ ap Some is)))
+    (subst (λ H. IsReadingOf Valued H (at k) kid) (within-depth G c depth k.depth fits) (right k (Some kid) (sym there ∙ ap Some is)))
 
-pub unary_unread : (table : Table) (count : ℕ) (c : Unary) (k : Subtree) (o : Option Reading) → Some o ≡ table k → o ≡ None → IsCombined table count (shape.Unary c k) None
-unary_unread table count c k o there is G depth at e fits right h = right k None (sym there ∙ ap Some is) (readable_unary G at depth c k fits h)
+pub unary_unread : (Valued : Type 0) (table : Table) (count : ℕ) (c : Unary) (k : Subtree) (o : Option Reading) → Some o ≡ table k → o ≡ None → IsCombined Valued table count (shape.Unary c k) None
+unary_unread Valued table count c k o there is G depth at e fits right h = right k None (sym there ∙ ap Some is) (readable_unary G at depth c k fits h)
 
-pub binary_combined : (table : Table) (count : ℕ) (c : Binary) (k l : Subtree) (o p : Option Reading) (left right : Reading) (found : Option Reading) → Some o ≡ table k → o ≡ Some left → Some p ≡ table l → p ≡ Some right → ((G : Context) (s t : Tree) → IsReadingOf G s left → IsReadingOf G t right → Reads G (Make (binary_op c) (More s (More t NoTrees))) found) → IsCombined table count (shape.Binary c k l) found
-binary_combined table count c k l o p left right found there is also other read G depth at e fits rights =
+pub binary_combined : (Valued : Type 0) (table : Table) (count : ℕ) (c : Binary) (k l : Subtree) (o p : Option Reading) (left right : Reading) (found : Option Reading) → Some o ≡ table k → o ≡ Some left → Some p ≡ table l → p ≡ Some right → ((G : Context) (s t : Tree) → IsReadingOf Valued G s left → IsReadingOf Valued G t right → Reads Valued G (Make (binary_op c) (More s (More t NoTrees))) found) → IsCombined Valued table count (shape.Binary c k l) found
+binary_combined Valued table count c k l o p left right found there is also other read G depth at e fits rights =
     read (with_names depth G) (at k) (at l)
-    (subst (λ n. IsReadingOf (with_names n G) (at k) left) fits.0 (rights k (Some left) (sym there ∙ ap Some is)))
-    (subst (λ n. IsReadingOf (with_names n G) (at l) right) fits.1 (rights l (Some right) (sym also ∙ ap Some other)))
+    (subst (λ n. IsReadingOf Valued (with_names n G) (at k) left) fits.0 (rights k (Some left) (sym there ∙ ap Some is)))
+    (subst (λ n. IsReadingOf Valued (with_names n G) (at l) right) fits.1 (rights l (Some right) (sym also ∙ ap Some other)))
 
-pub left_unread : (table : Table) (count : ℕ) (c : Binary) (k l : Subtree) (o : Option Reading) → Some o ≡ table k → o ≡ None → IsCombined table count (shape.Binary c k l) None
-left_unread table count c k l o there is G depth at e fits rights h =
+pub left_unread : (Valued : Type 0) (table : Table) (count : ℕ) (c : Binary) (k l : Subtree) (o : Option Reading) → Some o ≡ table k → o ≡ None → IsCombined Valued table count (shape.Binary c k l) None
+left_unread Valued table count c k l o there is G depth at e fits rights h =
     rights k None (sym there ∙ ap Some is) (at_depth G at k depth fits.0 (readable_binary G at depth c k l h).0)
 
-pub right_unread : (table : Table) (count : ℕ) (c : Binary) (k l : Subtree) (o : Option Reading) → Some o ≡ table l → o ≡ None → IsCombined table count (shape.Binary c k l) None
-right_unread table count c k l o there is G depth at e fits rights h =
+pub right_unread : (Valued : Type 0) (table : Table) (count : ℕ) (c : Binary) (k l : Subtree) (o : Option Reading) → Some o ≡ table l → o ≡ None → IsCombined Valued table count (shape.Binary c k l) None
+right_unread Valued table count c k l o there is G depth at e fits rights h =
     rights l None (sym there ∙ ap Some is) (at_depth G at l depth fits.1 (readable_binary G at depth c k l h).1)

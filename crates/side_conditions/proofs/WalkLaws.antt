@@ -31,12 +31,12 @@ use Rattle.side_conditions.specs.Openings.{IsShapeOf}
 use Rattle.side_conditions.specs.Walks.{task_at, asked, all_steps, TaskStands, TasksStand, Leads, IsCombined, Remembers}
 
 -- the state of a walk to a root, which began over some nodes with some readings
-pub record Walks (f : Meanings) (names : List Bool) (root : Subtree) (begin : List (List Waiting)) (before : Table) (known : List (List Waiting)) (table : Table) (tasks : List Task) : Type 0 where
+pub record Walks (Valued : Type 0) (f : Meanings) (names : List Bool) (root : Subtree) (begin : List (List Waiting)) (before : Table) (known : List (List Waiting)) (table : Table) (tasks : List Task) : Type 0 where
   pub grows : Grows begin known
   pub keeps : (s : Subtree) → IsSome (before s) → IsSome (table s)
   pub stand : TasksStand f known names tasks
   pub leads : Leads root (λ q. IsSome (table q)) tasks
-  pub remembers : Remembers f known names table
+  pub remembers : Remembers Valued f known names table
 
 -- nodes that are added
 
@@ -84,11 +84,11 @@ steps-grow f known new names (task.Read s ∷ ts) g stand =
     ap₂ (λ t n. 2 * size t + n) (tree-grows f known new (length ts) s g stand.0.1) (steps-grow f known new names ts g stand.1)
 steps-grow f known new names (task.Combine s shape ∷ ts) g stand = ap (λ n. 1 + n) (steps-grow f known new names ts g stand.1)
 
-pub remembers-grow : (f : Meanings) (known new : List (List Waiting)) (names : List Bool) (table : Table) → Grows known new → Remembers f known names table → Remembers f new names table
-remembers-grow f known new names table g r = record {
+pub remembers-grow : (Valued : Type 0) (f : Meanings) (known new : List (List Waiting)) (names : List Bool) (table : Table) → Grows known new → Remembers Valued f known names table → Remembers Valued f new names table
+remembers-grow Valued f known new names table g r = record {
   kept = λ s there. closure-grows f known new deepest s.closure g (r.kept s there);
   right = λ G same s found is.
-      subst (λ t. Reads (with_names s.depth G) t found) (sym (tree-grows f known new deepest s g (r.kept s (ap is_some is)))) (r.right G same s found is);
+      subst (λ t. Reads Valued (with_names s.depth G) t found) (sym (tree-grows f known new deepest s g (r.kept s (ap is_some is)))) (r.right G same s found is);
 }
 
 -- what is present
@@ -158,9 +158,9 @@ steps_asked at s count (shape.Binary c k l) ts = omega arith
 
 -- the walk begins with one task
 
-pub walk_begins : (f : Meanings) (names : List Bool) (root : Subtree) (known : List (List Waiting)) (table : Table) (items : List Task) → IsClosure f known 0 root.closure → root.depth ≡ 0 → Remembers f known names table → items ≡ task.Read root ∷ [] → Walks f names root known table known table (reverse items)
-walk_begins f names root known table items stands outermost remembers one =
-    subst (λ ts. Walks f names root known table known table (reverse ts)) (sym one) record {
+pub walk_begins : (Valued : Type 0) (f : Meanings) (names : List Bool) (root : Subtree) (known : List (List Waiting)) (table : Table) (items : List Task) → IsClosure f known 0 root.closure → root.depth ≡ 0 → Remembers Valued f known names table → items ≡ task.Read root ∷ [] → Walks Valued f names root known table known table (reverse items)
+walk_begins Valued f names root known table items stands outermost remembers one =
+    subst (λ ts. Walks Valued f names root known table known table (reverse ts)) (sym one) record {
       grows = grows-same known;
       keeps = λ s there. there;
       stand = ((omega arith, stands), tt);
@@ -177,21 +177,21 @@ size_pos (Var k) = omega arith
 size_pos (Make op kids) = omega arith
 
 -- the task that comes next in such a state, and those after it
-pub record Next (f : Meanings) (names : List Bool) (root : Subtree) (begin : List (List Waiting)) (before : Table) (known : List (List Waiting)) (table : Table) (items rest : List Task) (t : Task) : Type 0 where
+pub record Next (Valued : Type 0) (f : Meanings) (names : List Bool) (root : Subtree) (begin : List (List Waiting)) (before : Table) (known : List (List Waiting)) (table : Table) (items rest : List Task) (t : Task) : Type 0 where
   pub order : reverse items ≡ t ∷ reverse rest
-  pub walks : Walks f names root begin before known table (t ∷ reverse rest)
+  pub walks : Walks Valued f names root begin before known table (t ∷ reverse rest)
 
-pub walk_next : {f : Meanings} {names : List Bool} {root : Subtree} {begin : List (List Waiting)} {before : Table} {known : List (List Waiting)} {table : Table} {items rest : List Task} {last t : Task} → items ≡ rest ++ last ∷ [] → last ≡ t → Walks f names root begin before known table (reverse items) → Next f names root begin before known table items rest t
-walk_next {f = f} {names = names} {root = root} {begin = begin} {before = before} {known = known} {table = table} {items = items} {rest = rest} {last = last} {t = t} popped is w =
+pub walk_next : {Valued : Type 0} {f : Meanings} {names : List Bool} {root : Subtree} {begin : List (List Waiting)} {before : Table} {known : List (List Waiting)} {table : Table} {items rest : List Task} {last t : Task} → items ≡ rest ++ last ∷ [] → last ≡ t → Walks Valued f names root begin before known table (reverse items) → Next Valued f names root begin before known table items rest t
+walk_next {Valued = Valued} {f = f} {names = names} {root = root} {begin = begin} {before = before} {known = known} {table = table} {items = items} {rest = rest} {last = last} {t = t} popped is w =
     let order : reverse items ≡ t ∷ reverse rest = ap reverse popped ∙ reverse-append rest (last ∷ []) ∙ ap (λ x. x ∷ reverse rest) is in
-    record { order = order; walks = subst (Walks f names root begin before known table) order w }
+    record { order = order; walks = subst (Walks Valued f names root begin before known table) order w }
 
-module _ {f : Meanings} {names : List Bool} {root : Subtree} {begin : List (List Waiting)} {before : Table} {known : List (List Waiting)} {table : Table} {items rest : List Task} {s : Subtree} (next : Next f names root begin before known table items rest (task.Read s)) where
+module _ {Valued : Type 0} {f : Meanings} {names : List Bool} {root : Subtree} {begin : List (List Waiting)} {before : Table} {known : List (List Waiting)} {table : Table} {items rest : List Task} {s : Subtree} (next : Next Valued f names root begin before known table items rest (task.Read s)) where
   abbrev Left : List (List Waiting) → List Task → Type 0
   Left new ts = suc (all_steps (tree_at f new) ts) ≤ all_steps (tree_at f known) (reverse items)
 
   -- the subtree was read
-  pub walk_skips : IsSome (table s) → Walks f names root begin before known table (reverse rest)
+  pub walk_skips : IsSome (table s) → Walks Valued f names root begin before known table (reverse rest)
   walk_skips there =
       let w = next.walks in
       record {
@@ -217,13 +217,13 @@ module _ {f : Meanings} {names : List Bool} {root : Subtree} {begin : List (List
 
   -- the subtree was opened
   module _ {new : List (List Waiting)} {sh : Shape} (later : List Task) (g : Grows known new) (o : IsShapeOf f known new names s sh) (order : reverse later ≡ asked s sh (reverse rest)) where
-    pub walk_asks : Walks f names root begin before new table (reverse later)
+    pub walk_asks : Walks Valued f names root begin before new table (reverse later)
     walk_asks =
         let w = next.walks in
         let here = w.stand.0 in
         let ts = reverse rest in
         let n = length ts in
-        subst (Walks f names root begin before new table) (sym order) record {
+        subst (Walks Valued f names root begin before new table) (sym order) record {
           grows = grows-grows begin known new w.grows g;
           keeps = w.keeps;
           stand = reads_stand f new names (suc n) (shape_kids sh) (task.Combine s sh ∷ ts) (omega arith)
@@ -234,7 +234,7 @@ module _ {f : Meanings} {names : List Bool} {root : Subtree} {begin : List (List
               );
           leads = leads-reads root (λ q. IsSome (table q)) (shape_kids sh) (task.Combine s sh ∷ ts)
               (λ Q weaker all. (all, leads-weaker root (λ q. IsSome (table q) ⊎ (q ≡ s)) (λ q. Q q ⊎ (q ≡ s)) ts (λ q. ⊎_elim (λ p. inl (weaker q p)) (λ e. inr e)) w.leads));
-          remembers = remembers-grow f known new names table g w.remembers;
+          remembers = remembers-grow Valued f known new names table g w.remembers;
         }
 
     pub steps_ask : Left new (reverse later)
@@ -247,20 +247,20 @@ module _ {f : Meanings} {names : List Bool} {root : Subtree} {begin : List (List
         omega arith))
 
 -- one more reading
-pub walk_adds : {f : Meanings} {names : List Bool} {root : Subtree} {begin : List (List Waiting)} {before : Table} {known : List (List Waiting)} {table : Table} {items rest : List Task} {t : Task} {found : Option Reading} {nodes : List (List Waiting)} {new : Table} → Next f names root begin before known table items rest t → Grows known nodes → IsAdded (task_at t) found table new → ((G : Context) → indices G ≡ names → Reads (with_names (task_at t).depth G) (tree_at f known (task_at t)) found) → length (reverse rest) ≤ deepest → Walks f names root begin before nodes new (reverse rest)
-walk_adds {f = f} {names = names} {root = root} {begin = begin} {before = before} {known = known} {table = table} {rest = rest} {t = t} {found = found} {nodes = nodes} {new = new} next g added reads few =
+pub walk_adds : {Valued : Type 0} {f : Meanings} {names : List Bool} {root : Subtree} {begin : List (List Waiting)} {before : Table} {known : List (List Waiting)} {table : Table} {items rest : List Task} {t : Task} {found : Option Reading} {nodes : List (List Waiting)} {new : Table} → Next Valued f names root begin before known table items rest t → Grows known nodes → IsAdded (task_at t) found table new → ((G : Context) → indices G ≡ names → Reads Valued (with_names (task_at t).depth G) (tree_at f known (task_at t)) found) → length (reverse rest) ≤ deepest → Walks Valued f names root begin before nodes new (reverse rest)
+walk_adds {Valued = Valued} {f = f} {names = names} {root = root} {begin = begin} {before = before} {known = known} {table = table} {rest = rest} {t = t} {found = found} {nodes = nodes} {new = new} next g added reads few =
     let w = next.walks in
     let ts = reverse rest in
     let s = task_at t in
     let closure = task_closure f known names (length ts) t w.stand.0 in
-    let all : Remembers f known names new = record {
+    let all : Remembers Valued f known names new = record {
       kept = λ q there. kept q (new q) refl there;
       right = λ G same q other is.
           ⊎_elim
           (λ old. w.remembers.right G same q other old)
           (λ both.
-          subst (λ z. Reads (with_names z.depth G) (tree_at f known z) other) (sym both.0)
-          (subst (Reads (with_names s.depth G) (tree_at f known s)) (sym both.1) (reads G same)))
+          subst (λ z. Reads Valued (with_names z.depth G) (tree_at f known z) other) (sym both.0)
+          (subst (Reads Valued (with_names s.depth G) (tree_at f known s)) (sym both.1) (reads G same)))
           (added.each q other is);
     } in
     record {
@@ -270,7 +270,7 @@ walk_adds {f = f} {names = names} {root = root} {begin = begin} {before = before
       leads = leads-weaker root (λ q. IsSome (table q) ⊎ (q ≡ s)) (λ q. IsSome (new q)) ts
           (λ q. ⊎_elim (λ p. added.keeps q p) (λ e. ap is_some (ap new e ∙ added.here)))
           (leads-rest root (λ q. IsSome (table q)) t ts w.leads);
-      remembers = remembers-grow f known nodes names new g all;
+      remembers = remembers-grow Valued f known nodes names new g all;
     }
   where
     kept : (q : Subtree) (o : Option (Option Reading)) → new q ≡ o → IsSome o → IsClosure f known deepest q.closure
@@ -282,10 +282,10 @@ walk_adds {f = f} {names = names} {root = root} {begin = begin} {before = before
         (added.each q other is)
 
 -- what the readings of kids were put together to
-pub walk_combined : {f : Meanings} {names : List Bool} {root : Subtree} {begin : List (List Waiting)} {before : Table} {known : List (List Waiting)} {table : Table} {items rest : List Task} {s : Subtree} {sh : Shape} (found : Option Reading) → Next f names root begin before known table items rest (task.Combine s sh) → IsCombined table (s.depth + length names) sh found → (G : Context) → indices G ≡ names → Reads (with_names s.depth G) (tree_at f known s) found
-walk_combined {f = f} {names = names} {known = known} {s = s} {sh = sh} found next combined G same =
+pub walk_combined : {Valued : Type 0} {f : Meanings} {names : List Bool} {root : Subtree} {begin : List (List Waiting)} {before : Table} {known : List (List Waiting)} {table : Table} {items rest : List Task} {s : Subtree} {sh : Shape} (found : Option Reading) → Next Valued f names root begin before known table items rest (task.Combine s sh) → IsCombined Valued table (s.depth + length names) sh found → (G : Context) → indices G ≡ names → Reads Valued (with_names s.depth G) (tree_at f known s) found
+walk_combined {Valued = Valued} {f = f} {names = names} {known = known} {s = s} {sh = sh} found next combined G same =
     let w = next.walks in
-    subst (λ t. Reads (with_names s.depth G) t found) w.stand.0.3
+    subst (λ t. Reads Valued (with_names s.depth G) t found) w.stand.0.3
     (combined G s.depth (tree_at f known) (ap (λ ns. s.depth + length ns) (sym same)) (subst (λ ns. ShapeFits ns s.depth sh) (sym same) w.stand.0.4) (w.remembers.right G same))
 
 -- a walk ends
@@ -311,13 +311,13 @@ none_there : (o : Option (Option Reading)) → o ≡ None → IsSome o → ⊥
 none_there None e there = cc
 none_there (Some found) e there = cc
 
-pub remembers_nothing : (f : Meanings) (known : List (List Waiting)) (names : List Bool) (table : Table) → ((s : Subtree) → table s ≡ None) → Remembers f known names table
-remembers_nothing f known names table nothing = record {
+pub remembers_nothing : (Valued : Type 0) (f : Meanings) (known : List (List Waiting)) (names : List Bool) (table : Table) → ((s : Subtree) → table s ≡ None) → Remembers Valued f known names table
+remembers_nothing Valued f known names table nothing = record {
   kept = λ s there. absurd (none_there (table s) (nothing s) there);
   right = λ G same s found is. absurd (none_there (table s) (nothing s) (ap is_some is));
 }
 
 -- what a subtree is read as
-pub root_reads : (f : Meanings) (known : List (List Waiting)) (names : List Bool) (table : Table) (root : Subtree) (found : Option Reading) → Remembers f known names table → root.depth ≡ 0 → Some found ≡ table root → (G : Context) → indices G ≡ names → Reads G (tree_at f known root) found
-root_reads f known names table root found r outermost is G same =
-    subst (λ n. Reads (with_names n G) (tree_at f known root) found) outermost (r.right G same root found (sym is))
+pub root_reads : (Valued : Type 0) (f : Meanings) (known : List (List Waiting)) (names : List Bool) (table : Table) (root : Subtree) (found : Option Reading) → Remembers Valued f known names table → root.depth ≡ 0 → Some found ≡ table root → (G : Context) → indices G ≡ names → Reads Valued G (tree_at f known root) found
+root_reads Valued f known names table root found r outermost is G same =
+    subst (λ n. Reads Valued (with_names n G) (tree_at f known root) found) outermost (r.right G same root found (sym is))

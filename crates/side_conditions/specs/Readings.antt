@@ -13,6 +13,8 @@ use Rattle.faces.specs.declared.equations.Equation.{Equation}
 use Rattle.faces.specs.Faces.{face_truth}
 use Rattle.side_conditions.specs.declared.reading.Reading.{Reading}
 use Rattle.side_conditions.specs.declared.reading.Reading.TheVariants as reading
+use Rattle.side_conditions.specs.declared.reading.Detail.{Detail}
+use Rattle.side_conditions.specs.declared.reading.Detail.TheVariants as detail
 use Rattle.conditions.specs.Sides.{is_formula, is_face, value, is_true, Satisfies}
 use Rattle.side_conditions.specs.Levels.{values_by_index, point_by_index}
 
@@ -34,17 +36,31 @@ pub record AreFacesOf (G : Context) (faces : List (List (List Equation))) : Type
 abbrev pub IsNowhereTrue : List (List Equation) → Type 0
 IsNowhereTrue face = (x : Point) → face_truth face x ≡ false
 
-abbrev pub IsReadingOf : Context → Tree → Reading → Type 0
-IsReadingOf G t (reading.Form form) = IsFormOf G t form
-IsReadingOf G t (reading.Face face) = IsFaceOf G t face
+-- it is of the tree's kind
+abbrev pub IsKindOf : Context → Tree → Reading → Type 0
+IsKindOf G t (reading.Form form) = IsTrue (is_formula G t)
+IsKindOf G t (reading.Face face) = IsTrue (is_face G t)
+
+-- it has the tree's value
+abbrev pub IsValueOf : Context → Tree → Reading → Type 0
+IsValueOf G t (reading.Form form) = IsFormOf G t form
+IsValueOf G t (reading.Face face) = IsFaceOf G t face
+
+-- values are told
+abbrev pub IsValued : Detail → Type 0
+IsValued d = d ≡ detail.Value
+
+-- it is of the tree's kind, and has its value where values are told
+abbrev pub IsReadingOf : Type 0 → Context → Tree → Reading → Type 0
+IsReadingOf Valued G t r = IsKindOf G t r × (Valued → IsValueOf G t r)
 
 -- a formula or a face
 abbrev pub is_readable : Context → Tree → Bool
 is_readable G t = is_formula G t || is_face G t
 
 -- the tree was read, unless it is no formula and no face
-abbrev pub Reads : Context → Tree → Option Reading → Type 0
-Reads G t found = MatchOption found (IsTrue (is_readable G t) → ⊥) (IsReadingOf G t)
+abbrev pub Reads : Type 0 → Context → Tree → Option Reading → Type 0
+Reads Valued G t found = MatchOption found (IsTrue (is_readable G t) → ⊥) (IsReadingOf Valued G t)
 
 abbrev pub form_in : Reading → Option (List (List Literal))
 form_in (reading.Form form) = Some form

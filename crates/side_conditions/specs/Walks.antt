@@ -59,22 +59,22 @@ Leads root present (task.Combine s shape ∷ ts) =
     All present (shape_kids shape) × Leads root (λ q. present q ⊎ (q ≡ s)) ts
 
 -- what was read is right
-abbrev pub AreRight : Meanings → List (List Waiting) → Context → Table → Type 0
-AreRight f known G table =
+abbrev pub AreRight : Type 0 → Meanings → List (List Waiting) → Context → Table → Type 0
+AreRight Valued f known G table =
     (s : Subtree) (found : Option Reading) → table s ≡ Some found
-    → Reads (with_names s.depth G) (tree_at f known s) found
+    → Reads Valued (with_names s.depth G) (tree_at f known s) found
 
 -- what was read is of subtrees over these nodes, and right in every context with these indices
-pub record Remembers (f : Meanings) (known : List (List Waiting)) (names : List Bool)
-    (table : Table) : Type 0 where
+pub record Remembers (Valued : Type 0) (f : Meanings) (known : List (List Waiting))
+    (names : List Bool) (table : Table) : Type 0 where
   pub kept : (s : Subtree) → IsSome (table s) → IsClosure f known deepest s.closure
-  pub right : (G : Context) → indices G ≡ names → AreRight f known G table
+  pub right : (G : Context) → indices G ≡ names → AreRight Valued f known G table
 
 -- whatever its kids are, the shape over them was read if they were read right
-abbrev pub IsCombined : Table → ℕ → Shape → Option Reading → Type 0
-IsCombined table count shape found =
+abbrev pub IsCombined : Type 0 → Table → ℕ → Shape → Option Reading → Type 0
+IsCombined Valued table count shape found =
     (G : Context) (depth : ℕ) (at : Subtree → Tree) → count ≡ depth + length (indices G)
     → ShapeFits (indices G) depth shape
     → ((s : Subtree) (kid : Option Reading) → table s ≡ Some kid
-    → Reads (with_names s.depth G) (at s) kid)
-    → Reads (with_names depth G) (shape_tree at count shape) found
+    → Reads Valued (with_names s.depth G) (at s) kid)
+    → Reads Valued (with_names depth G) (shape_tree at count shape) found

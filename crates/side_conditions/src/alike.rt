@@ -10,11 +10,13 @@ ghost use Rattle.conditions.specs.Sides.{AlikeIn};
 ghost use Rattle.side_conditions.specs.Contexts.{context_of};
 ghost use Rattle.side_conditions.specs.Formulas.{AreAlike, AreSameFormulas};
 ghost use Rattle.side_conditions.specs.Held.{StandsFor};
+ghost use Rattle.side_conditions.specs.Readings.{IsValued};
 ghost use Rattle.side_conditions.specs.Shapes.{tree_of};
 ghost use Rattle.side_conditions.specs.Shown.{reading_at};
 ghost use Rattle.side_conditions.specs.Walks.{Remembers};
 
 use crate::context_faces::ContextFaces;
+use crate::reading::Detail;
 use crate::readings::Readings;
 use crate::subtree::Subtree;
 use crate::walk::read;
@@ -37,12 +39,12 @@ fn same_formulas<R: Reader>(
     requires stands { StandsFor (R.means rows.now) faces.old.ctx faces.old }
     requires left { IsClosure (R.means rows.now) (lists environments.old) 0 left }
     requires right { IsClosure (R.means rows.now) (lists environments.old) 0 right }
-    requires remembers { Remembers (R.means rows.now) (lists environments.old)
-        faces.old.names.items (reading_at readings.old) }
+    requires remembers { Remembers (IsValued Detail.Value) (R.means rows.now)
+        (lists environments.old) faces.old.names.items (reading_at readings.old) }
     ensures stands { StandsFor (R.means rows.now) faces.old.ctx faces.new }
     ensures grows { OnOk result (Grows (lists environments.old) (lists environments.new)) }
-    ensures remembers { OnOk result (Remembers (R.means rows.now) (lists environments.new)
-        faces.new.names.items (reading_at readings.new)) }
+    ensures remembers { OnOk result (Remembers (IsValued Detail.Value) (R.means rows.now)
+        (lists environments.new) faces.new.names.items (reading_at readings.new)) }
     ensures same { let f = R.means rows.now in let known = lists environments.old in
         IfOk result (AreSameFormulas (context_of (f faces.old.ctx.0))
         (tree_of (closure_meaning f known left)) (tree_of (closure_meaning f known right))) }
@@ -50,8 +52,24 @@ fn same_formulas<R: Reader>(
     let alloc = faces.alloc();
     let left = Subtree::outermost(left);
     let right = Subtree::outermost(right);
-    read(alloc, rows, faces.names(), environments, readings, left)?;
-    read(alloc, rows, faces.names(), environments, readings, right)?;
+    read(
+        alloc,
+        rows,
+        faces.names(),
+        Detail::Value,
+        environments,
+        readings,
+        left,
+    )?;
+    read(
+        alloc,
+        rows,
+        faces.names(),
+        Detail::Value,
+        environments,
+        readings,
+        right,
+    )?;
     match (readings.form(left), readings.form(right)) {
         (Some(left), Some(right)) => Ok(Some(faces.same(left, right)?)),
         _ => Ok(None),
@@ -73,12 +91,12 @@ fn ask_trees<R: Reader>(
     requires stands { StandsFor (R.means rows.now) faces.old.ctx faces.old }
     requires left { IsClosure (R.means rows.now) (lists environments.old) 0 left }
     requires right { IsClosure (R.means rows.now) (lists environments.old) 0 right }
-    requires remembers { Remembers (R.means rows.now) (lists environments.old)
-        faces.old.names.items (reading_at readings.old) }
+    requires remembers { Remembers (IsValued Detail.Value) (R.means rows.now)
+        (lists environments.old) faces.old.names.items (reading_at readings.old) }
     ensures stands { StandsFor (R.means rows.now) faces.old.ctx faces.new }
     ensures grows { OnOk result (Grows (lists environments.old) (lists environments.new)) }
-    ensures remembers { OnOk result (Remembers (R.means rows.now) (lists environments.new)
-        faces.new.names.items (reading_at readings.new)) }
+    ensures remembers { OnOk result (Remembers (IsValued Detail.Value) (R.means rows.now)
+        (lists environments.new) faces.new.names.items (reading_at readings.new)) }
     ensures yes { let f = R.means rows.now in let known = lists environments.old in
         IfOk result (λ asked. asked ≡ true → Asks f (lists environments.new)
         (AreAlike (context_of (f faces.old.ctx.0))

@@ -5,7 +5,7 @@ ghost use Rattle.side_conditions.specs.Contexts.{IsMeetOf};
 
 use crate::alike::alike;
 use crate::contexts::{face_or_bottom, faces_of, meet_of, names_of};
-use crate::reading::Reading;
+use crate::reading::{Detail, Reading};
 use crate::restriction::same_under;
 use crate::walk::read_row;
 use faces::Face;
@@ -57,6 +57,34 @@ impl ContextFaces {
         self.ctx
     }
 
+    /// Whether the tree is a formula over the names of the context. No normal form is made.
+    pub fn accepts_formula<R: Reader>(&self, rows: &R, tree: TermId) -> Result<bool, AllocError>
+        requires stands { StandsFor (R.means rows.now) self.now.ctx self.now }
+        requires tree { IsTree (R.means rows.now tree.0) }
+        ensures { IfOk result (λ accepts.
+            let f = R.means rows.now in IsTrue accepts ↔
+            IsTrue (is_formula (context_of (f self.now.ctx.0)) (tree_of (f tree.0)))) }
+    {
+        match read_row(self.alloc(), rows, &self.names, Detail::Kind, tree)? {
+            Some(Reading::Form(_)) => Ok(true),
+            Some(Reading::Face(_)) | None => Ok(false),
+        }
+    }
+
+    /// Whether the tree is a face over the names of the context. No normal form is made.
+    pub fn accepts_face<R: Reader>(&self, rows: &R, tree: TermId) -> Result<bool, AllocError>
+        requires stands { StandsFor (R.means rows.now) self.now.ctx self.now }
+        requires tree { IsTree (R.means rows.now tree.0) }
+        ensures { IfOk result (λ accepts.
+            let f = R.means rows.now in IsTrue accepts ↔
+            IsTrue (is_face (context_of (f self.now.ctx.0)) (tree_of (f tree.0)))) }
+    {
+        match read_row(self.alloc(), rows, &self.names, Detail::Kind, tree)? {
+            Some(Reading::Face(_)) => Ok(true),
+            Some(Reading::Form(_)) | None => Ok(false),
+        }
+    }
+
     /// The form of a formula, with its value under every valuation. None exactly where the tree is
     /// no formula over the names of the context. A name has its level as number.
     pub fn form_of<R: Reader>(&self, rows: &R, tree: TermId) -> Result<Option<Form>, AllocError>
@@ -68,7 +96,7 @@ impl ContextFaces {
             let t = tree_of (f tree.0) in
             MatchOption found (IsTrue (is_formula G t) → ⊥) (IsFormOf G t)) }
     {
-        match read_row(self.alloc(), rows, &self.names, tree)? {
+        match read_row(self.alloc(), rows, &self.names, Detail::Value, tree)? {
             Some(Reading::Form(form)) => Ok(Some(form)),
             Some(Reading::Face(_)) => Ok(None),
             None => Ok(None),
@@ -86,7 +114,7 @@ impl ContextFaces {
             let t = tree_of (f tree.0) in
             MatchOption found (IsTrue (is_face G t) → ⊥) (IsFaceOf G t)) }
     {
-        match read_row(self.alloc(), rows, &self.names, tree)? {
+        match read_row(self.alloc(), rows, &self.names, Detail::Value, tree)? {
             Some(Reading::Face(face)) => Ok(Some(face)),
             Some(Reading::Form(_)) => Ok(None),
             None => Ok(None),

@@ -12,7 +12,7 @@ ghost use Rattle.side_conditions.specs.Readings.{AreFacesOf};
 ghost use Rattle.side_conditions.specs.Shapes.{tree_of};
 ghost use Rattle.side_conditions.specs.Contexts.{context_of, IsMeetOf};
 
-use crate::reading::Reading;
+use crate::reading::{Detail, Reading};
 use crate::walk::read_row;
 use faces::{Face, Lattice};
 use rows::{CtxId, CtxRow, Reader, TermId};
@@ -54,7 +54,7 @@ pub fn face_or_bottom<R: Reader>(
         let t = tree_of (R.means rows.now tree.0) in
         face_truth face x ≡ (is_face G t && is_true (point_by_index G x) t)) }
 {
-    match read_row(alloc, rows, names, tree)? {
+    match read_row(alloc, rows, names, Detail::Value, tree)? {
         Some(Reading::Face(face)) => Ok(face),
         Some(Reading::Form(_)) | None => Ok(Face::bottom(alloc)?),
     }

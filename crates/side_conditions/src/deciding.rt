@@ -87,8 +87,8 @@ fn decided<R: Reader>(
         IfOk result (λ holds. IfSome condition (λ c. IsTrue holds ↔ SideHolds c)) }
 {
     match test {
-        SideTest::IsFormula(_, r) => Ok(faces.form_of(rows, TermId(r))?.is_some()),
-        SideTest::IsFace(_, p) => Ok(faces.face_of(rows, TermId(p))?.is_some()),
+        SideTest::IsFormula(_, r) => Ok(faces.accepts_formula(rows, TermId(r))?),
+        SideTest::IsFace(_, p) => Ok(faces.accepts_face(rows, TermId(p))?),
         SideTest::Holds(_, p) => Ok(faces.follows(rows, TermId(p))?),
         SideTest::Alike(_, d, e) => Ok(faces.alike(rows, SubId(d), SubId(e))?),
     }

@@ -6,12 +6,21 @@ ghost use Rattle.trees.specs.Judgements.{Context};
 ghost use Rattle.conditions.specs.Sides.{is_name};
 ghost use Rattle.side_conditions.specs.Levels.{count_indices};
 ghost use Rattle.side_conditions.specs.Shapes.{nullary_op, unary_op, binary_op, within};
-ghost use Rattle.side_conditions.specs.Readings.{IsReadingOf, Reads, form_in, face_in};
+ghost use Rattle.side_conditions.specs.Readings.{IsReadingOf, IsValued, Reads, form_in, face_in};
 
 use crate::shapes::{Binary, Nullary, Unary};
 use faces::{Face, Lattice};
 use interval::Form;
 use std::alloc::{AllocError, Global};
+
+/// What is told of a tree that is read.
+#[derive(Clone, Copy, Debug, PartialEq, Eq)]
+pub enum Detail {
+    /// Whether it is a formula or a face. Then each name is read as 0, so that no reading is long.
+    Kind,
+    /// Its value, too.
+    Value,
+}
 
 /// A tree read as a formula or as a face.
 #[derive(Drop)]
@@ -42,17 +51,20 @@ impl Reading {
     }
 
     /// That of a name, by its level.
-    pub fn of_name(alloc: Global, level: u64) -> Result<Reading, AllocError>
+    pub fn of_name(alloc: Global, level: u64, detail: Detail) -> Result<Reading, AllocError>
         ensures { IfOk result (λ reading. (G : Context) (k : ℕ) → count_indices G ≡ suc (level + k)
-            → IsTrue (is_name G k) → IsReadingOf G (Var k) reading) }
+            → IsTrue (is_name G k) → IsReadingOf (IsValued detail) G (Var k) reading) }
     {
-        Ok(Reading::Form(Form::name(alloc, level)?))
+        match detail {
+            Detail::Kind => Ok(Reading::Form(Form::zero(alloc)?)),
+            Detail::Value => Ok(Reading::Form(Form::name(alloc, level)?)),
+        }
     }
 
     /// That of an operator with no kid.
     pub fn of_nullary(alloc: Global, op: Nullary) -> Result<Reading, AllocError>
-        ensures { IfOk result (λ reading. (G : Context)
-            → IsReadingOf G (Make (nullary_op op) NoTrees) reading) }
+        ensures { IfOk result (λ reading. (detail : Detail) (G : Context)
+            → IsReadingOf (IsValued detail) G (Make (nullary_op op) NoTrees) reading) }
     {
         match op {
             Nullary::Zero => Ok(Reading::Form(Form::zero(alloc)?)),
@@ -70,9 +82,9 @@ impl Reading {
         kid: &Reading,
         level: u64,
     ) -> Result<Option<Reading>, AllocError>
-        ensures { IfOk result (λ found. (G : Context) (t : Tree) → level ≡ count_indices G
-            → IsReadingOf (within op G) t kid.now
-            → Reads G (Make (unary_op op) (More t NoTrees)) found) }
+        ensures { IfOk result (λ found. (detail : Detail) (G : Context) (t : Tree)
+            → level ≡ count_indices G → IsReadingOf (IsValued detail) (within op G) t kid.now
+            → Reads (IsValued detail) G (Make (unary_op op) (More t NoTrees)) found) }
     {
         match op {
             Unary::Neg => match kid.form() {
@@ -100,9 +112,10 @@ impl Reading {
         left: &Reading,
         right: &Reading,
     ) -> Result<Option<Reading>, AllocError>
-        ensures { IfOk result (λ found. (G : Context) (s t : Tree) → IsReadingOf G s left.now
-            → IsReadingOf G t right.now
-            → Reads G (Make (binary_op op) (More s (More t NoTrees))) found) }
+        ensures { IfOk result (λ found. (detail : Detail) (G : Context) (s t : Tree)
+            → IsReadingOf (IsValued detail) G s left.now
+            → IsReadingOf (IsValued detail) G t right.now
+            → Reads (IsValued detail) G (Make (binary_op op) (More s (More t NoTrees))) found) }
     {
         match op {
             Binary::Min => match (left.form(), right.form()) {

@@ -9,13 +9,13 @@ ghost use Rattle.closures.specs.Shown.{lists};
 ghost use Rattle.closures.specs.Closures.{IsClosure};
 ghost use Rattle.side_conditions.specs.declared.subtree.Subtree.{Subtree};
 ghost use Rattle.side_conditions.specs.Levels.{indices};
-ghost use Rattle.side_conditions.specs.Readings.{Reads};
+ghost use Rattle.side_conditions.specs.Readings.{IsValued, Reads};
 ghost use Rattle.side_conditions.specs.Shapes.{tree_of, shape_kids};
 ghost use Rattle.side_conditions.specs.Shown.{reading_at};
 ghost use Rattle.side_conditions.specs.Walks.{asked, IsCombined, Remembers};
 
 use crate::opening::shape_of;
-use crate::reading::Reading;
+use crate::reading::{Detail, Reading};
 use crate::readings::Readings;
 use crate::shapes::Shape;
 use crate::subtree::Subtree;
@@ -46,14 +46,15 @@ fn ask(tasks: &mut Vec<Task>, at: Subtree, shape: Shape) -> Result<(), AllocErro
 fn combined(
     alloc: Global,
     readings: &Readings,
+    detail: Detail,
     count: u64,
     shape: Shape,
 ) -> Result<Option<Reading>, AllocError>
     requires { All (λ kid. IsSome (reading_at readings.now kid)) (shape_kids shape) }
-    ensures { IfOk result (IsCombined (reading_at readings.now) count shape) }
+    ensures { IfOk result (IsCombined (IsValued detail) (reading_at readings.now) count shape) }
 {
     match shape {
-        Shape::Name(level) => Ok(Some(Reading::of_name(alloc, level)?)),
+        Shape::Name(level) => Ok(Some(Reading::of_name(alloc, level, detail)?)),
         Shape::Nullary(op) => Ok(Some(Reading::of_nullary(alloc, op)?)),
         Shape::Unary(op, kid) => match readings.get(kid) {
             Some(kid) => Ok(Reading::of_unary(alloc, op, kid, count)?),
@@ -68,11 +69,12 @@ fn combined(
 
 /// Reads a tree, each subtree once, unless it was read before. `readings` then has it. `names`
 /// tells of each index of the context whether it is a name, the innermost first, and is the same
-/// for all that `readings` has.
+/// for all that `readings` has, and so is the detail.
 pub fn read<R: Reader>(
     alloc: Global,
     rows: &R,
     names: &[bool],
+    detail: Detail,
     environments: &mut Environments,
     readings: &mut Readings,
     root: Subtree,
@@ -80,11 +82,11 @@ pub fn read<R: Reader>(
     requires stands { IsClosure (R.means rows.now) (lists environments.old) 0 root.closure }
     requires outermost { root.depth ≡ 0 }
     requires few { length names.now < 2 ^ 63 }
-    requires remembers { Remembers (R.means rows.now) (lists environments.old) names.now
-        (reading_at readings.old) }
+    requires remembers { Remembers (IsValued detail) (R.means rows.now) (lists environments.old)
+        names.now (reading_at readings.old) }
     ensures grows { OnOk result (Grows (lists environments.old) (lists environments.new)) }
-    ensures remembers { OnOk result (Remembers (R.means rows.now) (lists environments.new) names.now
-        (reading_at readings.new)) }
+    ensures remembers { OnOk result (Remembers (IsValued detail) (R.means rows.now)
+        (lists environments.new) names.now (reading_at readings.new)) }
     ensures keeps { OnOk result ((s : Subtree) → IsSome (reading_at readings.old s)
         → IsSome (reading_at readings.new s)) }
     ensures there { OnOk result (IsSome (reading_at readings.new root)) }
@@ -108,7 +110,7 @@ pub fn read<R: Reader>(
             }
             Task::Combine(at, shape) => {
                 let count = at.depth + names.len() as u64;
-                let reading = combined(alloc, readings, count, shape)?;
+                let reading = combined(alloc, readings, detail, count, shape)?;
                 readings.insert(at, reading)?;
             }
         }
@@ -123,16 +125,25 @@ pub fn read_row<R: Reader>(
     alloc: Global,
     rows: &R,
     names: &[bool],
+    detail: Detail,
     tree: TermId,
 ) -> Result<Option<Reading>, AllocError>
     requires tree { IsTree (R.means rows.now tree.0) }
     requires few { length names.now < 2 ^ 63 }
     ensures { IfOk result (λ found. (G : Context) → indices G ≡ names.now
-        → Reads G (tree_of (R.means rows.now tree.0)) found) }
+        → Reads (IsValued detail) G (tree_of (R.means rows.now tree.0)) found) }
 {
     let root = Subtree::outermost(Closure::of_row(tree));
     let mut environments = Environments::new(alloc);
     let mut readings = Readings::new(alloc);
-    read(alloc, rows, names, &mut environments, &mut readings, root)?;
+    read(
+        alloc,
+        rows,
+        names,
+        detail,
+        &mut environments,
+        &mut readings,
+        root,
+    )?;
     Ok(readings.take(root))
 }

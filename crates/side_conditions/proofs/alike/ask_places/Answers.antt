@@ -1,3 +1,5 @@
+use Rattle.side_conditions.specs.declared.reading.Detail.TheVariants as detail
+use Rattle.side_conditions.specs.Readings.{IsValued}
 use Rattle.std.proofs.Common.{rules, ◌≡◌, sym, ap, subst}
 use Rattle.std.proofs.lemmas.Bool.{eqb-true, eqb-false}
 use Rattle.rows.specs.declared.views.SubId.{SubId}
@@ -27,7 +29,7 @@ loop-left-init g c =
       places-begin f (context_of (f c.args.faces.now.ctx.0)) (lists c.args.environments.now) c.args.left.0 c.args.right.0 c.of_row-left.result c.of_row-right.result c.args.pairs.now.keys
           (ap (λ (r : SubId). r.0) c.of_row-left.ensures.row) c.of_row-left.ensures.environment (ap (λ (r : SubId). r.0) c.of_row-right.ensures.row) c.of_row-right.ensures.environment c.requires.left c.requires.right c.requires.nothing,
       c.requires.stands,
-      remembers_nothing f (lists c.args.environments.now) c.args.faces.now.names.items (reading_at c.new-readings.result) c.new-readings.ensures,
+      remembers_nothing (IsValued detail.Value) f (lists c.args.environments.now) c.args.faces.now.names.items (reading_at c.new-readings.result) c.new-readings.ensures,
     )
 
 pub returns-clause-yes : goal.returns-clause-yes
@@ -87,7 +89,7 @@ pub ask_trees-requires-clause-remembers : goal.ask_trees-requires-clause-remembe
 ask_trees-requires-clause-remembers g c =
     let l = c.loop-left in
     let known = lists c.subst_head-in-loop-left.new.environments in
-    remembers-grow (g.R.Rows.means c.args.rows.now) (lists l.environments) known l.faces.names.items (reading_at l.readings) (grows-grows (lists l.environments) (lists c.subst_head.new.environments) known c.subst_head.ensures.grows c.subst_head-in-loop-left.ensures.grows) l.invariant.2
+    remembers-grow (IsValued detail.Value) (g.R.Rows.means c.args.rows.now) (lists l.environments) known l.faces.names.items (reading_at l.readings) (grows-grows (lists l.environments) (lists c.subst_head.new.environments) known c.subst_head.ensures.grows c.subst_head-in-loop-left.ensures.grows) l.invariant.2
 
 pub returns-then-not-branch-clause-no : goal.returns-then-not-branch-clause-no
 returns-then-not-branch-clause-no g c =

@@ -5,6 +5,7 @@ use Rattle.closures.specs.Environments.{deepest}
 use Rattle.closures.specs.Shown.{lists}
 use Rattle.closures.proofs.HeadLaws.{closure-deeper}
 use Rattle.side_conditions.specs.declared.tasks.Task.TheVariants as task
+use Rattle.side_conditions.specs.Readings.{IsValued}
 use Rattle.side_conditions.specs.Shown.{reading_at}
 use Rattle.side_conditions.proofs.WalkLaws.{Walks, Next, none_left, walk_begins, walk_next, walk_skips, walk_asks, walk_adds, walk_combined, steps_skip, steps_add, steps_ask}
 use Rattle.side_conditions.proofs.walk.read.Given as given
@@ -13,11 +14,11 @@ use Rattle.side_conditions.proofs.walk.read.Goals.{In-Read, In-Combine}
 
 pub loop-task-init : goal.loop-task-init
 loop-task-init g c =
-    walk_begins (g.R.Rows.means c.args.rows.now) c.args.names.now c.args.root (lists c.args.environments.now) (reading_at c.args.readings.now) c.push.new.self.items
+    walk_begins (IsValued c.args.detail) (g.R.Rows.means c.args.rows.now) c.args.names.now c.args.root (lists c.args.environments.now) (reading_at c.args.readings.now) c.push.new.self.items
     c.requires.stands c.requires.outermost c.requires.remembers
     (c.in_ok-push.ensures.items ∙ ap (λ xs. xs ++ task.Read c.args.root ∷ []) c.new-tasks.ensures.items)
 
-reads : (g : given.Over) (c : In-Read g) → Next (g.R.Rows.means c.args.rows.now) c.args.names.now c.args.root (lists c.args.environments.now) (reading_at c.args.readings.now) (lists c.loop-task.environments) (reading_at c.loop-task.readings) c.loop-task.tasks.items c.pop.new.self.items (task.Read c.in-Read.at)
+reads : (g : given.Over) (c : In-Read g) → Next (IsValued c.args.detail) (g.R.Rows.means c.args.rows.now) c.args.names.now c.args.root (lists c.args.environments.now) (reading_at c.args.readings.now) (lists c.loop-task.environments) (reading_at c.loop-task.readings) c.loop-task.tasks.items c.pop.new.self.items (task.Read c.in-Read.at)
 reads g c = walk_next c.in-Some.ensures.items c.in-Read.is c.loop-task.invariant
 
 pub shape_of-requires-in-Read-clause-stands : goal.shape_of-requires-in-Read-clause-stands
@@ -51,7 +52,7 @@ pub loop-task-smaller-in-Continue-branch-5 : goal.loop-task-smaller-in-Continue-
 loop-task-smaller-in-Continue-branch-5 g c =
     steps_add (reads g (goal.at.loop-task-smaller-in-Continue-branch-5 g c).In-Read) (lists c.shape_of.new.environments) c.in_ok-shape-in-Read.ensures.grows
 
-combines : (g : given.Over) (c : In-Combine g) → Next (g.R.Rows.means c.args.rows.now) c.args.names.now c.args.root (lists c.args.environments.now) (reading_at c.args.readings.now) (lists c.loop-task.environments) (reading_at c.loop-task.readings) c.loop-task.tasks.items c.pop.new.self.items (task.Combine c.in-Combine.at c.in-Combine.shape)
+combines : (g : given.Over) (c : In-Combine g) → Next (IsValued c.args.detail) (g.R.Rows.means c.args.rows.now) c.args.names.now c.args.root (lists c.args.environments.now) (reading_at c.args.readings.now) (lists c.loop-task.environments) (reading_at c.loop-task.readings) c.loop-task.tasks.items c.pop.new.self.items (task.Combine c.in-Combine.at c.in-Combine.shape)
 combines g c = walk_next c.in-Some.ensures.items c.in-Combine.is c.loop-task.invariant
 
 pub combined-requires : goal.combined-requires
@@ -68,4 +69,4 @@ pub returns-clause-there : goal.returns-clause-there
 returns-clause-there g c =
     let items = c.loop-task.tasks.items in
     let none : reverse items ≡ [] = none_left items c.loop-task.tasks.len c.loop-task.tasks.ok.0 c.in_default.ensures.cases.0 in
-    (subst (Walks (g.R.Rows.means c.args.rows.now) c.args.names.now c.args.root (lists c.args.environments.now) (reading_at c.args.readings.now) (lists c.loop-task.environments) (reading_at c.loop-task.readings)) none c.loop-task.invariant).leads
+    (subst (Walks (IsValued c.args.detail) (g.R.Rows.means c.args.rows.now) c.args.names.now c.args.root (lists c.args.environments.now) (reading_at c.args.readings.now) (lists c.loop-task.environments) (reading_at c.loop-task.readings)) none c.loop-task.invariant).leads
