@@ -308,6 +308,8 @@ fn is_formula_or_face(
     let faces = ContextFaces::read(alloc, rows, ctx)?;
     let is_formula = faces.form_of(rows, tree)?.is_some();
     let is_face = faces.face_of(rows, tree)?.is_some();
+    assert_eq!(rt; faces.accepts_formula(rows, tree)?, is_formula);
+    assert_eq!(rt; faces.accepts_face(rows, tree)?, is_face);
     Ok((is_formula, is_face))
 }
 
@@ -457,5 +459,31 @@ fn a_shared_formula_is_read_once(rt: HostRuntime) -> Result<(), Fail> {
     let last = doubled(&rt, &mut written.rows, first)?;
     let same = are_of_one_value(&rt, rt.alloc(), &written, (last, first))?;
     assert!(rt; same);
+    Ok(())
+}
+
+/// The meet of so many joins of two names each, all of them names of the context.
+fn long_formula(rt: &impl Abort, alloc: Global, count: u32) -> Result<(Written, TermId), Fail> {
+    let mut written = in_context(rt, alloc, "H")?;
+    for k in 0..count.min(1000) {
+        write(rt, &mut written, "nn")?;
+        add_tree(rt, &mut written, TermRow::Var(2 * k))?;
+        add_tree(rt, &mut written, TermRow::Var(2 * k + 1))?;
+        write(rt, &mut written, "|&")?;
+    }
+    let tree = TermId(pop(rt, &mut written));
+    Ok((written, tree))
+}
+
+/// Its normal form has 2^40 products.
+#[test]
+fn whether_a_tree_is_a_formula_is_told_without_its_normal_form(
+    rt: HostRuntime,
+) -> Result<(), Fail> {
+    let (written, tree) = long_formula(&rt, rt.alloc(), 40)?;
+    let (rows, ctx) = (&written.rows, CtxId(written.ctx));
+    assert!(rt; rows.is_context(ctx) && rows.is_term(tree));
+    let faces = ContextFaces::read(rt.alloc(), rows, ctx)?;
+    assert!(rt; faces.accepts_formula(rows, tree)? && !faces.accepts_face(rows, tree)?);
     Ok(())
 }
