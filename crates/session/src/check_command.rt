@@ -1,7 +1,6 @@
 //! The command `check`: it checks a module as it stands, and stores its derivation.
 
 ghost use Rattle.std.specs.Prelude.{◌≡◌, ◌<◌, ℕ, List, IfOk, IsErr, IsSome, Some, length, slice_get};
-ghost use Rattle.layout_lexer.specs.declared.token.Span.{Span};
 ghost use Rattle.trees.specs.Judgements.{Judgement};
 ghost use Rattle.resolver.specs.Resolved.{defs_in};
 ghost use Rattle.edge.specs.Seen.{seen_files};

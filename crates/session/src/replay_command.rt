@@ -1,6 +1,6 @@
 //! The command `replay`: it judges a derivation file, and whether it is one of a module.
 
-ghost use Rattle.std.specs.Prelude.{◌≡◌, IfOk};
+ghost use Rattle.std.specs.Prelude.{IfOk};
 ghost use Rattle.std.specs.Option.{option_map};
 ghost use Rattle.edge.specs.Seen.{seen_files};
 ghost use Rattle.session.specs.Answers.{IsFound, MayReplay};

@@ -1,6 +1,6 @@
 //! Whether the roots of a file are the judgements of a module.
 
-ghost use Rattle.std.specs.Prelude.{◌≡◌, ◌<◌, IfOk, IsSome, Some, length, map};
+ghost use Rattle.std.specs.Prelude.{◌≡◌, ◌<◌, IfOk, IsSome, Some, map};
 ghost use Rattle.std.specs.List.{All};
 ghost use Rattle.trees.specs.Claimed.{claimed};
 ghost use Rattle.translation.specs.Translated.{judgements_of};
@@ -50,7 +50,7 @@ fn first_difference(
     Ok(Some(both as u64))
 }
 
-/// The first root that is not the judgement of the definitions at its place, as below.
+/// The same over rows that are lent: of the rows of a file each early return would drop many parts.
 fn first_other(
     alloc: Global,
     rows: &mut JudgedRows,
