@@ -1,7 +1,7 @@
 //! The tokens of a module's text, with the marks that its layout stands for.
 //!
-//! Two passes, each with a definition of its own: a scanner cuts the text in pieces, each the
-//! longest that the rest begins with, and layout sets marks between the tokens.
+//! Two parts, each with a definition of its own: a scanner cuts the text in pieces, each the
+//! longest that the rest begins with, and layout sets marks between the tokens as they come.
 //!
 //! ```text
 //! tokens(alloc, b"let\nx")?            // `let`, the mark Open, a name at the bytes 4..5, Close

@@ -1,6 +1,6 @@
 //! Tokens and where they stand.
 
-ghost use Rattle.std.specs.Prelude.{◌≡◌, [], ◌∷◌, ◌++◌, OnOk, OnErr};
+ghost use Rattle.std.specs.Prelude.{◌≡◌, [], ◌∷◌, ◌++◌, slice_range, OnOk, OnErr};
 
 use std::alloc::{AllocError, Global};
 use std::fmt;
@@ -124,6 +124,17 @@ pub struct Token {
 pub struct Span {
     pub start: u32,
     pub end: u32,
+}
+
+impl Span {
+    /// The bytes of the piece, as many as the text has.
+    pub fn slice(self, bytes: &[u8]) -> &[u8]
+        ensures { result.now ≡ slice_range bytes.now self.start self.end }
+    {
+        let end = (self.end as usize).min(bytes.len());
+        let start = (self.start as usize).min(end);
+        &bytes[start..end]
+    }
 }
 
 /// A list of tokens.

@@ -204,9 +204,9 @@ mutual
         → IsFormula r (begin r s e p) ts a f u → IsElements (r - 1) u a rest es q
         → IsElements r p (piece AtSign s e ∷ ts) rest (kept r (At (from s u) f) es) q
 
-  -- exp3 = "PathP" exp4 exp4 exp4 | "comp" exp4 exp4 system | "fill" exp4 exp4 system | "transport"
-  -- exp4 exp4
-  --      | "Glue" exp4 system | "glue" exp4 system | "unglue" exp4 system | exp4
+  -- exp3 = "PathP" exp4 exp4 exp4 | "comp" exp4 exp4 system | "fill" exp4 exp4 system
+  --      | "transport" exp4 exp4 | "Glue" exp4 system | "glue" exp4 system | "unglue" exp4 system
+  --      | exp4
   pub data IsExp3 : ℕ → Past → List Piece → List Piece → Tree → Past → Type 0 where
     path_type : {r s e : ℕ} {p u v q : Past} {ts a c rest : List Piece} {x y z : Tree}
         → IsExp4 r (begin r s e p) ts a x u → IsExp4 r u a c y v → IsExp4 r v c rest z q

@@ -102,16 +102,13 @@ abbrev pub tree_list : {A : Type 0} → (A → Tree) → List A → Trees
 tree_list f [] = none
 tree_list f (x ∷ xs) = more (f x) (tree_list f xs)
 
-abbrev pub exps_of : Exps → Trees
-exps_of es = tree_list tree_of es.items.items
-
-abbrev pub elements_of : Elements → Trees
-elements_of es = tree_list element_of es.items.items
-
-abbrev pub module_of : ModuleOf → Tree
-module_of m = Module m.name m.imports (defs_of m.defs)
-
 -- the values that a list holds, in order
+abbrev pub exp_items : Exps → List Exp
+exp_items es = es.items.items
+
+abbrev pub element_items : Elements → List Element
+element_items es = es.items.items
+
 abbrev pub tele_items : Teles → List TeleOf
 tele_items xs = (out-Teles xs).items.items
 
@@ -120,3 +117,12 @@ side_items ss = (out-Sides ss).items.items
 
 abbrev pub def_items : Defs → List DefOf
 def_items ds = (out-Defs ds).items.items
+
+abbrev pub exps_of : Exps → Trees
+exps_of es = tree_list tree_of (exp_items es)
+
+abbrev pub elements_of : Elements → Trees
+elements_of es = tree_list element_of (element_items es)
+
+abbrev pub module_of : ModuleOf → Tree
+module_of m = Module m.name m.imports (defs_of m.defs)

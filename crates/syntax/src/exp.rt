@@ -26,8 +26,10 @@ ghost use Rattle.syntax.specs.View.{
   def_items,
   def_of,
   defs_of,
+  element_items,
   element_of,
   elements_of,
+  exp_items,
   exps_of,
   side_items,
   side_of,
@@ -147,7 +149,7 @@ pub enum Exp {
     Name {
         span: Span,
     },
-    /// `( components )`, with one component or more
+    /// `( components )`, with one component or more, unless these stand too deep to be read
     Brackets {
         span: Span,
         components: Exps,
@@ -412,7 +414,7 @@ impl Exps {
 
     /// The items, in order.
     pub fn as_slice(&self) -> &[Exp]
-        ensures { result.now ≡ self.now.items.items }
+        ensures { result.now ≡ exp_items self.now }
     {
         &self.items
     }
@@ -447,7 +449,7 @@ impl Elements {
 
     /// The items, in order.
     pub fn as_slice(&self) -> &[Element]
-        ensures { result.now ≡ self.now.items.items }
+        ensures { result.now ≡ element_items self.now }
     {
         &self.items
     }
