@@ -54,19 +54,19 @@ names_end : (t : Names) (p : Past) (F : List Frame) → finish (names_of t) p F 
 names_end (NM.PathSign r i) p F = refl
 names_end (NM.Path r i ns rn) p F = refl
 names_end (NM.Backslash r i) p F = refl
-names_end (NM.Tele u r rt xs) p F = refl
-names_end (NM.TeleNames u r rt xs ns rn) p F = refl
-names_end (NM.AfterTele u r rt xs) p F = refl
+names_end (NM.Tele x) p F = refl
+names_end (NM.TeleNames x ns rn) p F = refl
+names_end (NM.AfterTele x) p F = refl
 
 system_ends : (t : System) (p : Past) (F : List Frame) → finish (system_of t) p F ≡ None
 system_ends (SY.Open o) p F = refl
-system_ends (SY.Side o r ss eqs) p F = refl
-system_ends (SY.Equation o r ss eqs) p F = refl
-system_ends (SY.Name o r ss eqs n) p F = refl
-system_ends (SY.Sign o r ss eqs n) p F = refl
-system_ends (SY.End o r ss eqs) p F = refl
+system_ends (SY.Side x) p F = refl
+system_ends (SY.Equation x) p F = refl
+system_ends (SY.Name x n) p F = refl
+system_ends (SY.Sign x n) p F = refl
+system_ends (SY.End x) p F = refl
 
-pub other_ends : (t : Top) → ((m : _) → t ≡ T.Done m → ⊥) → ((slot rn i x hs : _) → t ≡ T.Projected slot rn i x hs → ⊥) → ((g : _) → t ≡ T.Given g → ⊥) → ((x i fs f : _) → t ≡ T.HaveNeg x i fs f → ⊥) → (p : Past) (F : List Frame) → finish (top_of t) p F ≡ None
+pub other_ends : (t : Top) → ((m : _) → t ≡ T.Done m → ⊥) → ((x : _) → t ≡ T.Projected x → ⊥) → ((g : _) → t ≡ T.Given g → ⊥) → ((x i fs f : _) → t ≡ T.HaveNeg x i fs f → ⊥) → (p : Past) (F : List Frame) → finish (top_of t) p F ≡ None
 other_ends (T.Heading t) done projected given formula p F = heading_ends t p F
 other_ends (T.Items t) done projected given formula p F = items_end t p F
 other_ends (T.Block t) done projected given formula p F = block_ends t p F
@@ -75,8 +75,8 @@ other_ends (T.Exp r) done projected given formula p F = refl
 other_ends (T.Exp1 r) done projected given formula p F = refl
 other_ends (T.Names t) done projected given formula p F = names_end t p F
 other_ends (T.Opened r i) done projected given formula p F = refl
-other_ends (T.Maybe r i ns rn pl n d) done projected given formula p F = refl
-other_ends (T.Projected slot rn i x hs) done projected given formula p F = absurd (projected slot rn i x hs refl)
+other_ends (T.Maybe x) done projected given formula p F = refl
+other_ends (T.Projected x) done projected given formula p F = absurd (projected x refl)
 other_ends (T.Given g) done projected given formula p F = absurd (given g refl)
 other_ends (T.Neg x i fs r) done projected given formula p F = refl
 other_ends (T.HaveNeg x i fs f) done projected given formula p F = absurd (formula x i fs f refl)

@@ -22,7 +22,7 @@ use layout_lexer::{Kind, Token, Tokens};
 use parser_blocks::{
     LIMIT, after_neg, block, finish_formula, finish_given, heading, items, names, neg, system,
 };
-use parser_expressions::{exp, exp1, give, given, maybe, opened, projected, with_projections};
+use parser_expressions::{exp, exp1, given, maybe, opened, placed, projected};
 use parser_states::{Heading, Parser, Stop, Top};
 use productions::Past;
 use std::alloc::Global;
@@ -66,33 +66,25 @@ fn next(alloc: Global, parser: Parser, token: Token) -> Result<Parser, Stop>
         Top::Items(top) => items(alloc, top, past, stack, token),
         Top::Block(top) => block(alloc, top, past, stack, token),
         Top::Done(_module) => Err(Stop::Unexpected),
-        Top::Exp(room) => exp(alloc, room, past, stack, token),
-        Top::Exp1(room) => exp1(alloc, room, past, stack, token),
+        Top::Exp { room } => exp(alloc, room, past, stack, token),
+        Top::Exp1 { room } => exp1(alloc, room, past, stack, token),
         Top::Names(top) => names(alloc, top, past, stack, token),
-        Top::Opened(room, start) => opened(alloc, room, start, past, stack, token),
-        Top::Maybe(room, start, names, next, place, last, deep) => {
-            maybe(
-                alloc, room, start, names, next, place, last, deep, past, stack, token,
-            )
-        }
-        Top::Projected(slot, next, start, exp, projections) => {
-            projected(
-                alloc,
-                slot,
-                next,
-                start,
-                exp,
-                projections,
-                past,
-                stack,
-                token,
-            )
-        }
+        Top::Opened { room, start } => opened(alloc, room, start, past, stack, token),
+        Top::Maybe(top) => maybe(alloc, top, past, stack, token),
+        Top::Projected(top) => projected(alloc, top, past, stack, token),
         Top::Given(top) => given(alloc, top, past, stack, token),
-        Top::Neg(spine, at, frames, room) => neg(spine, at, frames, room, past, stack, token),
-        Top::HaveNeg(spine, at, frames, operand) => {
-            after_neg(alloc, spine, at, frames, operand, past, stack, token)
-        }
+        Top::Neg {
+            spine,
+            at,
+            frames,
+            room,
+        } => neg(spine, at, frames, room, past, stack, token),
+        Top::HaveNeg {
+            spine,
+            at,
+            frames,
+            operand,
+        } => after_neg(alloc, spine, at, frames, operand, past, stack, token),
         Top::System(top) => system(alloc, top, past, stack, token),
     }
 }
@@ -106,14 +98,19 @@ fn finished(alloc: Global, parser: Parser) -> Result<Text, Stop>
     let Parser { top, past, stack } = parser;
     match top {
         Top::Done(module) => Ok(Text::Module(module)),
-        Top::Projected(slot, _next, start, exp, projections) => {
-            let whole = with_projections(alloc, start, exp, projections, past)?;
-            let parts = give(alloc, slot, whole, past)?;
+        Top::Projected(part) => {
+            let parts = placed(alloc, part, past)?;
             Ok(Text::Exp(finish_given(alloc, parts, past, stack)?))
         }
         Top::Given(parts) => Ok(Text::Exp(finish_given(alloc, parts, past, stack)?)),
-        Top::HaveNeg(spine, at, frames, operand) => {
-            Ok(Text::Exp(finish_formula(alloc, spine, at, frames, operand.formula, past, stack)?))
+        Top::HaveNeg {
+            spine,
+            at,
+            frames,
+            operand,
+        } => {
+            let formula = operand.formula;
+            Ok(Text::Exp(finish_formula(alloc, spine, at, frames, formula, past, stack)?))
         }
         _ => Err(Stop::Unexpected),
     }
@@ -217,11 +214,8 @@ pub fn read(alloc: Global, bytes: &[u8], tokens: &Tokens) -> Result<Module, Read
     let size = bytes.len() as u32;
     let top = Top::Heading(Heading::Nothing);
     match whole_text(alloc, top, size, tokens.as_slice()) {
-        Ok(text) => match text {
-            Text::Module(module) => Ok(module),
-            // No module is read as an expression.
-            Text::Exp(_exp) => Err(ReadFault::Unexpected(size)),
-        },
+        Ok(Text::Module(module)) => Ok(module),
+        Ok(Text::Exp(_exp)) => unreachable!("no module is read as an expression"),
         Err(fault) => Err(fault),
     }
 }
@@ -235,12 +229,10 @@ pub fn read_exp(alloc: Global, bytes: &[u8], tokens: &Tokens) -> Result<Exp, Rea
     ensures err { IfErr result (IsFault IsWholeExp (length bytes.now) (pieces tokens.now)) }
 {
     let size = bytes.len() as u32;
-    match whole_text(alloc, Top::Exp(LIMIT), size, tokens.as_slice()) {
-        Ok(text) => match text {
-            Text::Exp(exp) => Ok(exp),
-            // No expression is read as a module.
-            Text::Module(_module) => Err(ReadFault::Unexpected(size)),
-        },
+    let top = Top::Exp { room: LIMIT };
+    match whole_text(alloc, top, size, tokens.as_slice()) {
+        Ok(Text::Exp(exp)) => Ok(exp),
+        Ok(Text::Module(_module)) => unreachable!("no expression is read as a module"),
         Err(fault) => Err(fault),
     }
 }

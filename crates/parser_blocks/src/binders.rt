@@ -1,6 +1,6 @@
 //! The steps in what binds names: teles and paths.
 
-ghost use Rattle.std.specs.Prelude.{◌≡◌, ℕ, None};
+ghost use Rattle.std.specs.Prelude.{◌≡◌, ◌∷◌, IfOk, None};
 ghost use Rattle.syntax.specs.View.{teles_of};
 ghost use Rattle.productions.specs.Words.{Colon as ColonWord, Star as StarWord, To as ToWord};
 ghost use Rattle.productions.specs.Machine.{
@@ -8,18 +8,28 @@ ghost use Rattle.productions.specs.Machine.{
   step_more,
   step_path,
   step_teles,
-  TeleName as AtTeleName,
+  InBinder,
   WantPathName,
   WantTele,
 };
-ghost use Rattle.parser_states.specs.View.{names_of, on, stack_of, use_of, view, Gives};
+ghost use Rattle.parser_states.specs.declared.state.Names.TheVariants.{Tele};
+ghost use Rattle.parser_states.specs.View.{
+  binder_of,
+  names_of,
+  on,
+  stack_of,
+  use_of,
+  view,
+  Gives,
+};
 
 use layout_lexer::{Kind, Spans, Token};
 use parser_states::{
-    Binder, Frame, Named, Names, Parser, Prefix, Stop, Top, Typing, Use, under, with_name,
+    Binder, Frame, Named, Names, Parser, Prefix, Stop, TelesSoFar, Top, Typing, Use, under,
+    with_name,
 };
 use productions::Past;
-use std::alloc::Global;
+use std::alloc::{AllocError, Global};
 use syntax::Teles;
 
 /// After names or teles.
@@ -35,20 +45,19 @@ pub fn names(
         (on token (machine_step (names_of names) past (stack_of stack.items))) }
 {
     match names {
-        Names::PathSign(room, start) => first_path_name(alloc, room, start, past, stack, token),
-        Names::Path(room, start, names, next) => more_path_names(
-            room, start, names, next, past, stack, token,
-        ),
-        Names::Backslash(room, start) => first_tele(alloc, room, start, past, stack, token),
-        Names::Tele(purpose, whole, room, teles) => first_name(
-            alloc, purpose, whole, room, teles, past, stack, token,
-        ),
-        Names::TeleNames(purpose, whole, room, teles, names, next) => more_names(
-            purpose, whole, room, teles, names, next, past, stack, token,
-        ),
-        Names::AfterTele(purpose, whole, room, teles) => more_teles(
-            alloc, purpose, whole, room, teles, past, stack, token,
-        ),
+        Names::PathSign { room, start } => first_path_name(alloc, room, start, past, stack, token),
+        Names::Path {
+            room,
+            start,
+            names,
+            next,
+        } => more_path_names(room, start, names, next, past, stack, token),
+        Names::Backslash { room, start } => first_tele(alloc, room, start, past, stack, token),
+        Names::Tele(teles) => first_name(alloc, teles, past, stack, token),
+        Names::TeleNames { teles, names, next } => {
+            more_names(teles, names, next, past, stack, token)
+        }
+        Names::AfterTele(teles) => more_teles(alloc, teles, past, stack, token),
     }
 }
 
@@ -66,9 +75,14 @@ fn first_path_name(
 {
     match token.kind {
         Kind::Identifier => {
-            let names = with_name(Spans::new(alloc), token)?;
+            let names = Names::Path {
+                room,
+                start,
+                names: with_name(Spans::new(alloc), token)?,
+                next: room.saturating_sub(1),
+            };
             Ok(Parser {
-                top: Top::Names(Names::Path(room, start, names, room.saturating_sub(1))),
+                top: Top::Names(names),
                 past: past.begin(room, token),
                 stack,
             })
@@ -90,11 +104,19 @@ fn first_tele(
         (on token (machine_step (WantTele room start) past (stack_of stack.items))) }
 {
     match token.kind {
-        Kind::LeftParen => Ok(Parser {
-            top: Top::Names(Names::Tele(Use::Lambda(start), room, room, Teles::new(alloc))),
-            past: past.begin(room, token),
-            stack,
-        }),
+        Kind::LeftParen => {
+            let teles = TelesSoFar {
+                purpose: Use::Lambda { start },
+                whole: room,
+                room,
+                teles: Teles::new(alloc),
+            };
+            Ok(Parser {
+                top: Top::Names(Names::Tele(teles)),
+                past: past.begin(room, token),
+                stack,
+            })
+        }
         _ => Err(Stop::Unexpected),
     }
 }
@@ -102,24 +124,24 @@ fn first_tele(
 /// The first name of a tele.
 fn first_name(
     alloc: Global,
-    purpose: Use,
-    whole: u32,
-    room: u32,
-    teles: Teles,
+    teles: TelesSoFar,
     past: Past,
     stack: Vec<Frame>,
     token: Token,
 ) -> Result<Parser, Stop>
     ensures { Gives view result
-        (on token (machine_step (AtTeleName (use_of purpose) whole room (teles_of teles)) past
-        (stack_of stack.items))) }
+        (on token (machine_step (names_of (Tele teles)) past (stack_of stack.items))) }
 {
     match token.kind {
         Kind::Identifier => {
-            let names = with_name(Spans::new(alloc), token)?;
-            let next = room.saturating_sub(1);
+            let room = teles.room;
+            let names = Names::TeleNames {
+                teles,
+                names: with_name(Spans::new(alloc), token)?,
+                next: room.saturating_sub(1),
+            };
             Ok(Parser {
-                top: Top::Names(Names::TeleNames(purpose, whole, room, teles, names, next)),
+                top: Top::Names(names),
                 past: past.begin(room, token),
                 stack,
             })
@@ -130,10 +152,7 @@ fn first_name(
 
 /// After names of a tele.
 fn more_names(
-    purpose: Use,
-    whole: u32,
-    room: u32,
-    teles: Teles,
+    teles: TelesSoFar,
     names: Spans,
     next: u32,
     past: Past,
@@ -141,25 +160,28 @@ fn more_names(
     token: Token,
 ) -> Result<Parser, Stop>
     ensures { Gives view result
-        (on token (step_more (use_of purpose) whole room (teles_of teles) names next past
-        (stack_of stack.items))) }
+        (on token (step_more (use_of teles.purpose) teles.whole teles.room (teles_of teles.teles)
+        names next past (stack_of stack.items))) }
 {
     match token.kind {
         Kind::Identifier => {
-            let names = with_name(names, token)?;
-            let after = next.saturating_sub(1);
+            let names = Names::TeleNames {
+                teles,
+                names: with_name(names, token)?,
+                next: next.saturating_sub(1),
+            };
             Ok(Parser {
-                top: Top::Names(Names::TeleNames(purpose, whole, room, teles, names, after)),
+                top: Top::Names(names),
                 past: past.begin(next, token),
                 stack,
             })
         }
         Kind::Colon => {
-            let stack = under(stack, Frame::Tele(purpose, whole, room, teles, names))?;
+            let room = teles.room.saturating_sub(1);
             Ok(Parser {
-                top: Top::Exp(room.saturating_sub(1)),
+                top: Top::Exp { room },
                 past: past.skip(token),
-                stack,
+                stack: under(stack, Frame::Tele(teles, names))?,
             })
         }
         _ => Err(Stop::Unexpected),
@@ -169,141 +191,159 @@ fn more_names(
 /// After teles, or after the name of a definition.
 fn more_teles(
     alloc: Global,
-    purpose: Use,
-    whole: u32,
-    room: u32,
-    teles: Teles,
+    teles: TelesSoFar,
     past: Past,
     stack: Vec<Frame>,
     token: Token,
 ) -> Result<Parser, Stop>
     ensures { Gives view result
-        (on token (step_teles (use_of purpose) whole room (teles_of teles) past
-        (stack_of stack.items))) }
+        (on token (step_teles (use_of teles.purpose) teles.whole teles.room (teles_of teles.teles)
+        past (stack_of stack.items))) }
 {
     match token.kind {
         Kind::LeftParen => {
+            let room = teles.room;
             Ok(Parser {
-                top: Top::Names(Names::Tele(purpose, whole, room, teles)),
+                top: Top::Names(Names::Tele(teles)),
                 past: past.begin(room, token),
                 stack,
             })
         }
-        Kind::Arrow => after_arrow(purpose, whole, teles, past, stack, token),
-        Kind::Star => after_star(purpose, whole, teles, past, stack, token),
-        Kind::Colon => after_colon(alloc, purpose, whole, teles, past, stack, token),
+        Kind::Arrow => after_arrow(teles, past, stack, token),
+        Kind::Star => after_star(teles, past, stack, token),
+        Kind::Colon => after_colon(alloc, teles, past, stack, token),
         _ => Err(Stop::Unexpected),
     }
 }
 
+/// The stack inside a form of this binder and these teles.
+fn in_binder(
+    binder: Binder,
+    room: u32,
+    start: u32,
+    teles: Teles,
+    stack: Vec<Frame>,
+) -> Result<Vec<Frame>, AllocError>
+    ensures { IfOk result (λ v. stack_of v.items
+        ≡ InBinder (binder_of binder) room start (teles_of teles) ∷ stack_of stack.items) }
+{
+    let prefix = Prefix::Binder {
+        binder,
+        room,
+        start,
+        teles,
+    };
+    Ok(under(stack, Frame::Prefix(prefix))?)
+}
+
 /// `->` after teles.
 fn after_arrow(
-    purpose: Use,
-    whole: u32,
-    teles: Teles,
+    so_far: TelesSoFar,
     past: Past,
     stack: Vec<Frame>,
     token: Token,
 ) -> Result<Parser, Stop>
-    ensures { (room : ℕ) → Gives view result
-        (step_teles (use_of purpose) whole room (teles_of teles) past (stack_of stack.items)
-        ToWord token.start token.end) }
+    ensures { Gives view result
+        (step_teles (use_of so_far.purpose) so_far.whole so_far.room (teles_of so_far.teles)
+        past (stack_of stack.items) ToWord token.start token.end) }
 {
-    let inner = whole.saturating_sub(1);
+    let TelesSoFar {
+        purpose,
+        whole,
+        teles,
+        ..
+    } = so_far;
+    let room = whole.saturating_sub(1);
     let past = past.skip(token);
     match purpose {
-        Use::Lambda(start) => {
-            let stack = under(
-                stack,
-                Frame::Prefix(Prefix::Binder(Binder::Lambda, whole, start, teles)),
-            )?;
+        Use::Lambda { start } => {
+            let stack = in_binder(Binder::Lambda, whole, start, teles, stack)?;
             Ok(Parser {
-                top: Top::Exp(inner),
+                top: Top::Exp { room },
                 past,
                 stack,
             })
         }
-        Use::Product(start) => {
-            let stack = under(
-                stack,
-                Frame::Prefix(Prefix::Binder(Binder::Pi, whole, start, teles)),
-            )?;
+        Use::Product { start } => {
+            let stack = in_binder(Binder::Pi, whole, start, teles, stack)?;
             Ok(Parser {
-                top: Top::Exp1(inner),
+                top: Top::Exp1 { room },
                 past,
                 stack,
             })
         }
-        Use::Def(_named) => Err(Stop::Unexpected),
+        Use::Def(_) => Err(Stop::Unexpected),
     }
 }
 
 /// `*` after teles.
 fn after_star(
-    purpose: Use,
-    whole: u32,
-    teles: Teles,
+    so_far: TelesSoFar,
     past: Past,
     stack: Vec<Frame>,
     token: Token,
 ) -> Result<Parser, Stop>
-    ensures { (room : ℕ) → Gives view result
-        (step_teles (use_of purpose) whole room (teles_of teles) past (stack_of stack.items)
-        StarWord token.start token.end) }
+    ensures { Gives view result
+        (step_teles (use_of so_far.purpose) so_far.whole so_far.room (teles_of so_far.teles)
+        past (stack_of stack.items) StarWord token.start token.end) }
 {
+    let TelesSoFar {
+        purpose,
+        whole,
+        teles,
+        ..
+    } = so_far;
     match purpose {
-        Use::Lambda(_start) => Err(Stop::Unexpected),
-        Use::Product(start) => {
-            let stack = under(
-                stack,
-                Frame::Prefix(Prefix::Binder(Binder::Sigma, whole, start, teles)),
-            )?;
+        Use::Product { start } => {
+            let room = whole.saturating_sub(1);
             Ok(Parser {
-                top: Top::Exp1(whole.saturating_sub(1)),
+                top: Top::Exp1 { room },
                 past: past.skip(token),
-                stack,
+                stack: in_binder(Binder::Sigma, whole, start, teles, stack)?,
             })
         }
-        Use::Def(_named) => Err(Stop::Unexpected),
+        Use::Lambda { .. } => Err(Stop::Unexpected),
+        Use::Def(_) => Err(Stop::Unexpected),
     }
 }
 
 /// `:` after the teles of a definition.
 fn after_colon(
     alloc: Global,
-    purpose: Use,
-    whole: u32,
-    teles: Teles,
+    so_far: TelesSoFar,
     past: Past,
     stack: Vec<Frame>,
     token: Token,
 ) -> Result<Parser, Stop>
-    ensures { (room : ℕ) → Gives view result
-        (step_teles (use_of purpose) whole room (teles_of teles) past (stack_of stack.items)
-        ColonWord token.start token.end) }
+    ensures { Gives view result
+        (step_teles (use_of so_far.purpose) so_far.whole so_far.room (teles_of so_far.teles)
+        past (stack_of stack.items) ColonWord token.start token.end) }
 {
+    let TelesSoFar {
+        purpose,
+        whole: room,
+        teles,
+        ..
+    } = so_far;
     match purpose {
-        Use::Lambda(_start) => Err(Stop::Unexpected),
-        Use::Product(_start) => Err(Stop::Unexpected),
         Use::Def(named) => {
             let Named { fall, defs, name } = Box::into_inner(named);
-            let typing = Box::new(
-                alloc,
-                Typing {
-                    fall,
-                    room: whole,
-                    defs,
-                    name,
-                    teles,
-                },
-            )?;
-            let stack = under(stack, Frame::Type(typing))?;
+            let typing = Typing {
+                fall,
+                room,
+                defs,
+                name,
+                teles,
+            };
+            let frame = Frame::Type(Box::new(alloc, typing)?);
             Ok(Parser {
-                top: Top::Exp(whole),
+                top: Top::Exp { room },
                 past: past.skip(token),
-                stack,
+                stack: under(stack, frame)?,
             })
         }
+        Use::Lambda { .. } => Err(Stop::Unexpected),
+        Use::Product { .. } => Err(Stop::Unexpected),
     }
 }
 
@@ -322,17 +362,24 @@ fn more_path_names(
 {
     match token.kind {
         Kind::Identifier => {
-            let names = with_name(names, token)?;
+            let names = Names::Path {
+                room,
+                start,
+                names: with_name(names, token)?,
+                next: next.saturating_sub(1),
+            };
             Ok(Parser {
-                top: Top::Names(Names::Path(room, start, names, next.saturating_sub(1))),
+                top: Top::Names(names),
                 past: past.begin(next, token),
                 stack,
             })
         }
         Kind::Greater => {
-            let stack = under(stack, Frame::Prefix(Prefix::Path(room, start, names)))?;
+            let stack = under(stack, Frame::Prefix(Prefix::Path { room, start, names }))?;
             Ok(Parser {
-                top: Top::Exp(room.saturating_sub(1)),
+                top: Top::Exp {
+                    room: room.saturating_sub(1),
+                },
                 past: past.skip(token),
                 stack,
             })

@@ -28,8 +28,8 @@ ghost use Rattle.parser_states.specs.View.{
 use layout_lexer::{Kind, Span, Spans, Token};
 use parser_expressions::close_block;
 use parser_states::{
-    Block, Frame, Heading, Items, Named, Names, Parser, Prefix, Stop, Top, Use, span, under,
-    with_name,
+    Block, Frame, Heading, Items, Named, Names, Parser, Prefix, Stop, TelesSoFar, Top, Use, span,
+    under, with_name,
 };
 use productions::Past;
 use std::alloc::Global;
@@ -119,13 +119,13 @@ pub fn block(
         (on token (machine_step (block_of block) past (stack_of stack.items))) }
 {
     match block {
-        Block::Word(room) => open_block(room, past, stack, token),
-        Block::Open(room) => first_def(alloc, room, past, stack, token),
-        Block::Next(fall, room, defs) => def(alloc, fall, room, defs, past, stack, token),
-        Block::AfterDef(fall, room, defs) => {
+        Block::Word { room } => open_block(room, past, stack, token),
+        Block::Open { room } => first_def(alloc, room, past, stack, token),
+        Block::Next { fall, room, defs } => def(alloc, fall, room, defs, past, stack, token),
+        Block::AfterDef { fall, room, defs } => {
             after_def(alloc, fall, room, defs, past, stack, token)
         }
-        Block::LetClose(room, start, defs) => let_body(room, start, defs, past, stack, token),
+        Block::LetClose { room, start, defs } => let_body(room, start, defs, past, stack, token),
     }
 }
 
@@ -136,7 +136,7 @@ fn open_block(room: u32, past: Past, stack: Vec<Frame>, token: Token) -> Result<
 {
     match token.kind {
         Kind::Open => Ok(Parser {
-            top: Top::Block(Block::Open(room)),
+            top: Top::Block(Block::Open { room }),
             past: past.skip(token),
             stack,
         }),
@@ -159,9 +159,11 @@ fn let_body(
 {
     match token.kind {
         Kind::In => {
-            let stack = under(stack, Frame::Prefix(Prefix::LetBody(room, start, defs)))?;
+            let stack = under(stack, Frame::Prefix(Prefix::LetBody { room, start, defs }))?;
             Ok(Parser {
-                top: Top::Exp(room.saturating_sub(1)),
+                top: Top::Exp {
+                    room: room.saturating_sub(1),
+                },
                 past: past.skip(token),
                 stack,
             })
@@ -209,17 +211,19 @@ fn def(
 {
     match token.kind {
         Kind::Identifier => {
-            let named = Box::new(
-                alloc,
-                Named {
-                    fall,
-                    defs,
-                    name: span(token),
-                },
-            )?;
-            let teles = Teles::new(alloc);
+            let named = Named {
+                fall,
+                defs,
+                name: span(token),
+            };
+            let teles = TelesSoFar {
+                purpose: Use::Def(Box::new(alloc, named)?),
+                whole: room,
+                room,
+                teles: Teles::new(alloc),
+            };
             Ok(Parser {
-                top: Top::Names(Names::AfterTele(Use::Def(named), room, room, teles)),
+                top: Top::Names(Names::AfterTele(teles)),
                 past: past.begin(room, token),
                 stack,
             })
@@ -334,11 +338,14 @@ fn after_def(
         (on token (machine_step (AtDef fall room (defs_of defs)) past (stack_of stack.items))) }
 {
     match token.kind {
-        Kind::Next => Ok(Parser {
-            top: Top::Block(Block::Next(fall, room.saturating_sub(fall), defs)),
-            past: past.skip(token),
-            stack,
-        }),
+        Kind::Next => {
+            let room = room.saturating_sub(fall);
+            Ok(Parser {
+                top: Top::Block(Block::Next { fall, room, defs }),
+                past: past.skip(token),
+                stack,
+            })
+        }
         Kind::Close => close_block(alloc, defs, past, stack, token),
         _ => Err(Stop::Unexpected),
     }

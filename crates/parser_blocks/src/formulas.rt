@@ -60,9 +60,13 @@ fn deeper(
           stack = stack_of stack.items;
         }) }
 {
-    let frames = inside(frames, frame)?;
     Ok(Parser {
-        top: Top::Neg(spine, at, frames, room.saturating_sub(1)),
+        top: Top::Neg {
+            spine,
+            at,
+            frames: inside(frames, frame)?,
+            room: room.saturating_sub(1),
+        },
         past,
         stack,
     })
@@ -93,7 +97,12 @@ fn operand(
         formula,
     };
     Parser {
-        top: Top::HaveNeg(spine, at, frames, operand),
+        top: Top::HaveNeg {
+            spine,
+            at,
+            frames,
+            operand,
+        },
         past: past.begin(room, token),
         stack,
     }
@@ -113,30 +122,17 @@ pub fn neg(
         (on token (step_neg (spine_of spine.value) at (inners_of frames.items) room past
         (stack_of stack.items))) }
 {
+    let start = token.start;
     match token.kind {
         Kind::Minus => {
-            let frame = Inner::Negation(room, token.start);
-            Ok(deeper(
-                spine,
-                at,
-                frames,
-                frame,
-                room,
-                past.begin(room, token),
-                stack,
-            )?)
+            let frame = Inner::Negation { room, start };
+            let past = past.begin(room, token);
+            Ok(deeper(spine, at, frames, frame, room, past, stack)?)
         }
         Kind::LeftParen => {
-            let frame = Inner::Parens(room, token.start);
-            Ok(deeper(
-                spine,
-                at,
-                frames,
-                frame,
-                room,
-                past.begin(room, token),
-                stack,
-            )?)
+            let frame = Inner::Parens { room, start };
+            let past = past.begin(room, token);
+            Ok(deeper(spine, at, frames, frame, room, past, stack)?)
         }
         Kind::Zero => {
             let formula = Formula::Zero(span(token));
@@ -219,8 +215,12 @@ fn joined(
 pub enum Closed {
     /// An operator with its operands.
     Whole(Formula),
-    /// In brackets, which are open: their room and start.
-    Parens(u32, u32, Formula),
+    /// In brackets, which are open.
+    Parens {
+        room: u32,
+        start: u32,
+        inner: Formula,
+    },
 }
 
 /// A formula with what is open round it.
@@ -228,16 +228,20 @@ fn enclosed(alloc: Global, frame: Inner, formula: Formula, past: Past) -> Result
     ensures { IfOk result (IsClosed (inner_of frame) (formula_of formula) past) }
 {
     match frame {
-        Inner::Negation(room, start) => Ok(Closed::Whole(negated(
-            alloc, room, start, formula, past,
-        )?)),
-        Inner::Meet(room, start, left) => Ok(Closed::Whole(met(
-            alloc, room, start, left, formula, past,
-        )?)),
-        Inner::Join(room, start, left) => Ok(Closed::Whole(joined(
-            alloc, room, start, left, formula, past,
-        )?)),
-        Inner::Parens(room, start) => Ok(Closed::Parens(room, start, formula)),
+        Inner::Negation { room, start } => {
+            Ok(Closed::Whole(negated(alloc, room, start, formula, past)?))
+        }
+        Inner::Meet { room, start, left } => {
+            Ok(Closed::Whole(met(alloc, room, start, left, formula, past)?))
+        }
+        Inner::Join { room, start, left } => {
+            Ok(Closed::Whole(joined(alloc, room, start, left, formula, past)?))
+        }
+        Inner::Parens { room, start } => Ok(Closed::Parens {
+            room,
+            start,
+            inner: formula,
+        }),
     }
 }
 
@@ -260,7 +264,7 @@ pub fn after_neg(
     let mut operand = operand;
     while let Some(frame) = frames.pop() {
         match frame {
-            Inner::Negation(room, start) => {
+            Inner::Negation { room, start } => {
                 let formula = negated(alloc, room, start, operand.formula, past)?;
                 operand = Operand {
                     room,
@@ -296,8 +300,12 @@ fn and(
 {
     match token.kind {
         Kind::And => {
-            let room = operand.room;
-            let frame = Inner::Meet(room, operand.start, operand.formula);
+            let Operand {
+                room,
+                start,
+                formula: left,
+            } = operand;
+            let frame = Inner::Meet { room, start, left };
             Ok(deeper(spine, at, frames, frame, room, past.skip(token), stack)?)
         }
         _ => after_conj(alloc, spine, at, frames, operand, past, stack, token),
@@ -323,7 +331,7 @@ fn after_conj(
     let mut operand = operand;
     while let Some(frame) = frames.pop() {
         match frame {
-            Inner::Negation(room, start) => {
+            Inner::Negation { room, start } => {
                 let formula = negated(alloc, room, start, operand.formula, past)?;
                 operand = Operand {
                     room,
@@ -331,7 +339,7 @@ fn after_conj(
                     formula,
                 };
             }
-            Inner::Meet(room, start, left) => {
+            Inner::Meet { room, start, left } => {
                 let formula = met(alloc, room, start, left, operand.formula, past)?;
                 operand = Operand {
                     room,
@@ -367,8 +375,12 @@ fn or(
 {
     match token.kind {
         Kind::Or => {
-            let room = operand.room;
-            let frame = Inner::Join(room, operand.start, operand.formula);
+            let Operand {
+                room,
+                start,
+                formula: left,
+            } = operand;
+            let frame = Inner::Join { room, start, left };
             Ok(deeper(spine, at, frames, frame, room, past.skip(token), stack)?)
         }
         _ => after_formula(
@@ -404,7 +416,7 @@ fn after_formula(
     while let Some(frame) = frames.pop() {
         match enclosed(alloc, frame, formula, past)? {
             Closed::Whole(whole) => formula = whole,
-            Closed::Parens(room, start, inner) => {
+            Closed::Parens { room, start, inner } => {
                 return parens(spine, at, frames, room, start, inner, past, stack, token);
             }
         }
@@ -438,7 +450,12 @@ fn parens(
                 formula: shallow_formula(room.saturating_sub(1), formula),
             };
             Ok(Parser {
-                top: Top::HaveNeg(spine, at, frames, operand),
+                top: Top::HaveNeg {
+                    spine,
+                    at,
+                    frames,
+                    operand,
+                },
                 past: past.skip(token),
                 stack,
             })
@@ -466,7 +483,7 @@ pub fn finish_formula(
     while let Some(frame) = frames.pop() {
         match enclosed(alloc, frame, formula, past)? {
             Closed::Whole(whole) => formula = whole,
-            Closed::Parens(_room, _start, _inner) => return Err(Stop::Unexpected),
+            Closed::Parens { .. } => return Err(Stop::Unexpected),
         }
     }
     let whole = put_at(spine, spanned(at, past), formula)?;
@@ -483,7 +500,6 @@ pub fn finish_given(alloc: Global, parts: Given, past: Past, stack: Vec<Frame>) 
             let whole = applied(alloc, spine, past)?;
             finish_exp(alloc, whole, past, stack)
         }
-        Given::Exp4(_slot) => Err(Stop::Unexpected),
-        Given::System(_owner) => Err(Stop::Unexpected),
+        Given::Exp4(_) | Given::System(_) => Err(Stop::Unexpected),
     }
 }

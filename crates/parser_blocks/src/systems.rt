@@ -6,17 +6,20 @@ ghost use Rattle.productions.specs.Grammar.{equation as equation_of};
 ghost use Rattle.productions.specs.Machine.{
   step as machine_step,
   step_side,
-  EquationClose as AtClose,
-  EquationEnd as AtEnd,
-  EquationName as AtName,
-  EquationSign as AtSign,
+  EquationClose,
   SystemStart as AtStart,
+};
+ghost use Rattle.parser_states.specs.declared.state.System.TheVariants.{
+  End as AtClose,
+  Equation as AtName,
+  Name as AtSign,
+  Sign as AtEnd,
 };
 ghost use Rattle.parser_states.specs.View.{on, owner_of, stack_of, system_of, view, Gives};
 
 use layout_lexer::{Kind, Span, Token};
 use parser_expressions::owned;
-use parser_states::{Frame, Given, Owner, Parser, Stop, System, Top, span, under};
+use parser_states::{Frame, Given, Owner, Parser, SidesSoFar, Stop, System, Top, span, under};
 use productions::Past;
 use std::alloc::{AllocError, Global};
 use syntax::{End, Equation, Equations, Sides};
@@ -35,41 +38,22 @@ pub fn system(
 {
     match system {
         System::Open(owner) => first_side(alloc, owner, past, stack, token),
-        System::Side(owner, room, sides, equations) => {
-            side(alloc, owner, room, sides, equations, past, stack, token)
-        }
-        System::Equation(owner, room, sides, equations) => {
-            name(owner, room, sides, equations, past, stack, token)
-        }
-        System::Name(owner, room, sides, equations, name) => {
-            sign(owner, room, sides, equations, name, past, stack, token)
-        }
-        System::Sign(owner, room, sides, equations, name) => {
-            end(owner, room, sides, equations, name, past, stack, token)
-        }
-        System::End(owner, room, sides, equations) => {
-            close(owner, room, sides, equations, past, stack, token)
-        }
+        System::Side(sides) => side(alloc, sides, past, stack, token),
+        System::Equation(sides) => name(sides, past, stack, token),
+        System::Name(sides, name) => sign(sides, name, past, stack, token),
+        System::Sign(sides, name) => end(sides, name, past, stack, token),
+        System::End(sides) => close(sides, past, stack, token),
     }
 }
 
 /// The name of an equation.
-fn name(
-    owner: Owner,
-    room: u32,
-    sides: Sides,
-    equations: Equations,
-    past: Past,
-    stack: Vec<Frame>,
-    token: Token,
-) -> Result<Parser, Stop>
+fn name(sides: SidesSoFar, past: Past, stack: Vec<Frame>, token: Token) -> Result<Parser, Stop>
     ensures { Gives view result
-        (on token (machine_step (AtName (owner_of owner) room (sides_of sides) equations) past
-        (stack_of stack.items))) }
+        (on token (machine_step (system_of (AtName sides)) past (stack_of stack.items))) }
 {
     match token.kind {
         Kind::Identifier => Ok(Parser {
-            top: Top::System(System::Name(owner, room, sides, equations, span(token))),
+            top: Top::System(System::Name(sides, span(token))),
             past: past.skip(token),
             stack,
         }),
@@ -79,22 +63,18 @@ fn name(
 
 /// The sign of an equation.
 fn sign(
-    owner: Owner,
-    room: u32,
-    sides: Sides,
-    equations: Equations,
+    sides: SidesSoFar,
     name: Span,
     past: Past,
     stack: Vec<Frame>,
     token: Token,
 ) -> Result<Parser, Stop>
     ensures { Gives view result
-        (on token (machine_step (AtSign (owner_of owner) room (sides_of sides) equations name)
-        past (stack_of stack.items))) }
+        (on token (machine_step (system_of (AtSign sides name)) past (stack_of stack.items))) }
 {
     match token.kind {
         Kind::Equals => Ok(Parser {
-            top: Top::System(System::Sign(owner, room, sides, equations, name)),
+            top: Top::System(System::Sign(sides, name)),
             past: past.skip(token),
             stack,
         }),
@@ -103,22 +83,13 @@ fn sign(
 }
 
 /// The bracket after an equation.
-fn close(
-    owner: Owner,
-    room: u32,
-    sides: Sides,
-    equations: Equations,
-    past: Past,
-    stack: Vec<Frame>,
-    token: Token,
-) -> Result<Parser, Stop>
+fn close(sides: SidesSoFar, past: Past, stack: Vec<Frame>, token: Token) -> Result<Parser, Stop>
     ensures { Gives view result
-        (on token (machine_step (AtClose (owner_of owner) room (sides_of sides) equations) past
-        (stack_of stack.items))) }
+        (on token (machine_step (system_of (AtClose sides)) past (stack_of stack.items))) }
 {
     match token.kind {
         Kind::RightParen => Ok(Parser {
-            top: Top::System(System::Side(owner, room, sides, equations)),
+            top: Top::System(System::Side(sides)),
             past: past.skip(token),
             stack,
         }),
@@ -129,29 +100,29 @@ fn close(
 /// The start of a side, or after an equation of it.
 fn side(
     alloc: Global,
-    owner: Owner,
-    room: u32,
-    sides: Sides,
-    equations: Equations,
+    sides: SidesSoFar,
     past: Past,
     stack: Vec<Frame>,
     token: Token,
 ) -> Result<Parser, Stop>
     ensures { Gives view result
-        (on token (step_side (owner_of owner) room (sides_of sides) equations past
-        (stack_of stack.items))) }
+        (on token (step_side (owner_of sides.owner) sides.room (sides_of sides.sides)
+        sides.equations past (stack_of stack.items))) }
 {
+    let room = sides.room;
     let past = past.begin(room, token);
     match token.kind {
         Kind::LeftParen => Ok(Parser {
-            top: Top::System(System::Equation(owner, room, sides, equations)),
+            top: Top::System(System::Equation(sides)),
             past,
             stack,
         }),
         Kind::Arrow => {
-            let frame = Frame::Side(Box::new(alloc, owner)?, room, sides, equations);
+            let frame = Frame::Side(Box::new(alloc, sides)?);
             Ok(Parser {
-                top: Top::Exp(room.saturating_sub(1)),
+                top: Top::Exp {
+                    room: room.saturating_sub(1),
+                },
                 past,
                 stack: under(stack, frame)?,
             })
@@ -181,62 +152,61 @@ fn first_side(
             })
         }
         _ => {
-            let room = owner.room();
-            side(
-                alloc,
+            let sides = SidesSoFar {
+                room: owner.room(),
                 owner,
-                room,
-                Sides::new(alloc),
-                Equations::new(alloc),
-                past,
-                stack,
-                token,
-            )
+                sides: Sides::new(alloc),
+                equations: Equations::new(alloc),
+            };
+            side(alloc, sides, past, stack, token)
         }
     }
 }
 
-/// The equations with one more.
-fn with_equation(mut equations: Equations, name: Span, end: End) -> Result<Equations, AllocError>
-    ensures { IfOk result (λ eqs. eqs ≡ equations ++ equation_of name end ∷ []) }
+/// The sides with one equation more of the next one.
+fn with_equation(sides: SidesSoFar, name: Span, end: End) -> Result<SidesSoFar, AllocError>
+    ensures { IfOk result (λ more. system_of (AtClose more)
+        ≡ EquationClose (owner_of sides.owner) sides.room (sides_of sides.sides)
+        (sides.equations ++ equation_of name end ∷ [])) }
 {
+    let SidesSoFar {
+        owner,
+        room,
+        sides,
+        mut equations,
+    } = sides;
     equations.push(Equation { name, end })?;
-    Ok(equations)
+    Ok(SidesSoFar {
+        owner,
+        room,
+        sides,
+        equations,
+    })
 }
 
 /// The end of the interval in an equation.
 fn end(
-    owner: Owner,
-    room: u32,
-    sides: Sides,
-    equations: Equations,
+    sides: SidesSoFar,
     name: Span,
     past: Past,
     stack: Vec<Frame>,
     token: Token,
 ) -> Result<Parser, Stop>
     ensures { Gives view result
-        (on token (machine_step (AtEnd (owner_of owner) room (sides_of sides) equations name)
-        past (stack_of stack.items))) }
+        (on token (machine_step (system_of (AtEnd sides name)) past (stack_of stack.items))) }
 {
     let past = past.skip(token);
     match token.kind {
-        Kind::Zero => {
-            let equations = with_equation(equations, name, End::Zero)?;
-            Ok(Parser {
-                top: Top::System(System::End(owner, room, sides, equations)),
-                past,
-                stack,
-            })
-        }
-        Kind::One => {
-            let equations = with_equation(equations, name, End::One)?;
-            Ok(Parser {
-                top: Top::System(System::End(owner, room, sides, equations)),
-                past,
-                stack,
-            })
-        }
+        Kind::Zero => Ok(Parser {
+            top: Top::System(System::End(with_equation(sides, name, End::Zero)?)),
+            past,
+            stack,
+        }),
+        Kind::One => Ok(Parser {
+            top: Top::System(System::End(with_equation(sides, name, End::One)?)),
+            past,
+            stack,
+        }),
         _ => Err(Stop::Unexpected),
     }
 }

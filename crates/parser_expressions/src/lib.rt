@@ -7,11 +7,12 @@
 //! ```
 #![tactic(auto)]
 
+mod brackets;
 mod exps;
+mod slots;
 mod wholes;
 
-pub use exps::{
-    applied, exp, exp1, give, given, maybe, opened, owned, projected, put_at, spined,
-    with_projections,
-};
+pub use brackets::{maybe, opened};
+pub use exps::{exp, exp1, given, projected, spined};
+pub use slots::{applied, owned, placed, put_at};
 pub use wholes::{close_block, deliver, finish_exp};

@@ -1,45 +1,55 @@
 //! A whole expression is at hand, and a token that does not go on with it.
 
-ghost use Rattle.std.specs.Prelude.{◌≡◌, ◌∷◌, [], IfOk, None};
-ghost use Rattle.syntax.specs.View.{tree_of, exps_of, teles_of, sides_of, defs_of};
-ghost use Rattle.syntax.specs.Tree.{Def as a_def, Module as a_module};
+ghost use Rattle.std.specs.Prelude.{◌≡◌, ◌∷◌, ◌-◌, [], IfOk, None};
+ghost use Rattle.syntax.specs.View.{tree_of, teles_of, sides_of, defs_of};
+ghost use Rattle.syntax.specs.Tree.{
+  Def as a_def,
+  Module as a_module,
+  Side as a_side,
+  Tele as a_tele,
+};
 ghost use Rattle.productions.specs.Words.{span as span_of};
-ghost use Rattle.productions.specs.Grammar.{skip as skip_to};
+ghost use Rattle.productions.specs.Grammar.{shallow as shallow_tree, skip as skip_to};
 ghost use Rattle.productions.specs.Machine.{
   bind,
   close_block as close_machine_block,
   deliver as step_deliver,
   finish_exp as machine_finish_exp,
   keep_last,
+  AfterTele as AtAfterTele,
   Done as DoneOf,
-  InBracket,
-  InSide,
-  InTele,
+  WantSide,
 };
+ghost use Rattle.parser_states.specs.declared.state.Names.TheVariants.{AfterTele};
+ghost use Rattle.parser_states.specs.declared.state.System.TheVariants.{Side as SideOf};
 ghost use Rattle.parser_states.specs.View.{
   binder_of,
   frame_of,
-  held_of,
   in_body,
+  in_bracket,
+  in_side,
+  in_tele,
   in_type,
+  names_of,
   on,
   owner_of,
   prefixed,
   stack_of,
+  system_of,
   use_of,
   view,
   Gives,
 };
 
-use crate::exps::owned;
+use crate::slots::{owned, unprojected};
 use layout_lexer::{Kind, Span, Spans, Token};
 use parser_states::{
-    Binder, Block, Frame, Given, HeldSlot, Names, Owner, Parser, Prefix, Stop, System, Top, Typing,
-    Use, keep_def, keep_exp, keep_side, keep_tele, shallow, spanned, under,
+    Binder, Block, Bracket, Frame, Given, Names, Parser, Prefix, SidesSoFar, Stop, System,
+    TelesSoFar, Top, Typing, keep_def, keep_exp, keep_side, keep_tele, shallow, spanned, under,
 };
 use productions::Past;
 use std::alloc::{AllocError, Global};
-use syntax::{Def, Defs, Equations, Exp, Exps, Module, Projections, Side, Sides, Tele, Teles};
+use syntax::{Def, Defs, Equations, Exp, Module, Side, Tele, Teles};
 
 fn bound(
     alloc: Global,
@@ -63,19 +73,24 @@ fn whole(alloc: Global, prefix: Prefix, exp: Exp, past: Past) -> Result<Exp, All
     ensures { IfOk result (λ e. tree_of e ≡ prefixed prefix past (tree_of exp)) }
 {
     match prefix {
-        Prefix::Arrow(room, start, from) => {
+        Prefix::Arrow { room, start, from } => {
             let to = shallow(room.saturating_sub(1), exp);
             Ok(Exp::arrow(alloc, spanned(start, past), from, to)?)
         }
-        Prefix::Binder(binder, room, start, teles) => {
+        Prefix::Binder {
+            binder,
+            room,
+            start,
+            teles,
+        } => {
             let body = shallow(room.saturating_sub(1), exp);
             Ok(bound(alloc, binder, spanned(start, past), teles, body)?)
         }
-        Prefix::Path(room, start, names) => {
+        Prefix::Path { room, start, names } => {
             let body = shallow(room.saturating_sub(1), exp);
             Ok(Exp::path_lambda(alloc, spanned(start, past), names, body)?)
         }
-        Prefix::LetBody(room, start, defs) => {
+        Prefix::LetBody { room, start, defs } => {
             let body = shallow(room.saturating_sub(1), exp);
             Ok(Exp::let_in(alloc, spanned(start, past), defs, body)?)
         }
@@ -85,10 +100,7 @@ fn whole(alloc: Global, prefix: Prefix, exp: Exp, past: Past) -> Result<Exp, All
 /// A component of a bracket.
 fn component(
     alloc: Global,
-    slot: HeldSlot,
-    start: u32,
-    room: u32,
-    before: Exps,
+    bracket: Bracket,
     exp: Exp,
     past: Past,
     stack: Vec<Frame>,
@@ -96,33 +108,36 @@ fn component(
 ) -> Result<Parser, Stop>
     ensures { Gives view result
         (on token (step_deliver (tree_of exp) past
-        (InBracket (held_of slot) start room (exps_of before) ∷ stack_of stack.items))) }
+        (in_bracket bracket ∷ stack_of stack.items))) }
 {
+    let Bracket {
+        slot,
+        start,
+        room,
+        before,
+    } = bracket;
     match token.kind {
         Kind::Comma => {
             let before = keep_exp(before, room, exp)?;
             let room = room.saturating_sub(1);
-            let stack = under(stack, Frame::Bracket(slot, start, room, before))?;
+            let bracket = Bracket {
+                slot,
+                start,
+                room,
+                before,
+            };
             Ok(Parser {
-                top: Top::Exp(room),
+                top: Top::Exp { room },
                 past: past.skip(token),
-                stack,
+                stack: under(stack, Frame::Bracket(bracket))?,
             })
         }
         Kind::RightParen => {
             let components = keep_exp(before, room, exp)?;
-            let brackets = Exp::brackets(
-                Span {
-                    start,
-                    end: token.end,
-                },
-                components,
-            );
-            let slot = slot.slot();
-            let next = slot.room();
-            let top = Top::Projected(slot, next, start, brackets, Projections::new(alloc));
+            let end = token.end;
+            let brackets = Exp::brackets(Span { start, end }, components);
             Ok(Parser {
-                top,
+                top: Top::Projected(unprojected(alloc, slot.slot(), start, brackets)),
                 past: past.skip(token),
                 stack,
             })
@@ -133,10 +148,7 @@ fn component(
 
 /// The type of a tele.
 fn tele(
-    purpose: Use,
-    whole: u32,
-    room: u32,
-    before: Teles,
+    teles: TelesSoFar,
     names: Spans,
     ty: Exp,
     past: Past,
@@ -145,21 +157,13 @@ fn tele(
 ) -> Result<Parser, Stop>
     ensures { Gives view result
         (on token (step_deliver (tree_of ty) past
-        (InTele (use_of purpose) whole room (teles_of before) names ∷ stack_of stack.items))) }
+        (in_tele teles names ∷ stack_of stack.items))) }
 {
-    let inner = room.saturating_sub(1);
     match token.kind {
         Kind::RightParen => {
-            let teles = keep_tele(
-                before,
-                room,
-                Tele {
-                    names,
-                    ty: shallow(inner, ty),
-                },
-            )?;
+            let teles = with_tele(teles, names, ty)?;
             Ok(Parser {
-                top: Top::Names(Names::AfterTele(purpose, whole, inner, teles)),
+                top: Top::Names(Names::AfterTele(teles)),
                 past: past.skip(token),
                 stack,
             })
@@ -168,13 +172,35 @@ fn tele(
     }
 }
 
+/// The teles with one more.
+fn with_tele(so_far: TelesSoFar, names: Spans, ty: Exp) -> Result<TelesSoFar, AllocError>
+    ensures { let room = so_far.room in
+        let one = a_tele names (shallow_tree (room - 1) (tree_of ty)) in
+        IfOk result (λ more. names_of (AfterTele more)
+        ≡ AtAfterTele (use_of so_far.purpose) so_far.whole (room - 1)
+        (keep_last room (teles_of so_far.teles) one)) }
+{
+    let TelesSoFar {
+        purpose,
+        whole,
+        room,
+        teles,
+    } = so_far;
+    let inner = room.saturating_sub(1);
+    let ty = shallow(inner, ty);
+    let teles = keep_tele(teles, room, Tele { names, ty })?;
+    Ok(TelesSoFar {
+        purpose,
+        whole,
+        room: inner,
+        teles,
+    })
+}
+
 /// The expression of a side.
 fn side(
     alloc: Global,
-    owner: Box<Owner>,
-    room: u32,
-    before: Sides,
-    equations: Equations,
+    so_far: Box<SidesSoFar>,
     body: Exp,
     past: Past,
     stack: Vec<Frame>,
@@ -182,38 +208,21 @@ fn side(
 ) -> Result<Parser, Stop>
     ensures { Gives view result
         (on token (step_deliver (tree_of body) past
-        (InSide (owner_of owner.value) room (sides_of before) equations ∷ stack_of stack.items))) }
+        (in_side so_far.value ∷ stack_of stack.items))) }
 {
-    let inner = room.saturating_sub(1);
+    let past = past.skip(token);
     match token.kind {
         Kind::Comma => {
-            let sides = keep_side(
-                before,
-                room,
-                Side {
-                    equations,
-                    body: shallow(inner, body),
-                },
-            )?;
-            let owner = Box::into_inner(owner);
-            let equations = Equations::new(alloc);
+            let sides = with_side(alloc, Box::into_inner(so_far), body)?;
             Ok(Parser {
-                top: Top::System(System::Side(owner, inner, sides, equations)),
-                past: past.skip(token),
+                top: Top::System(System::Side(sides)),
+                past,
                 stack,
             })
         }
         Kind::RightBracket => {
-            let sides = keep_side(
-                before,
-                room,
-                Side {
-                    equations,
-                    body: shallow(inner, body),
-                },
-            )?;
-            let past = past.skip(token);
-            let whole = owned(alloc, Box::into_inner(owner), sides, past)?;
+            let SidesSoFar { owner, sides, .. } = with_side(alloc, Box::into_inner(so_far), body)?;
+            let whole = owned(alloc, owner, sides, past)?;
             Ok(Parser {
                 top: Top::Given(Given::Spined(whole)),
                 past,
@@ -222,6 +231,31 @@ fn side(
         }
         _ => Err(Stop::Unexpected),
     }
+}
+
+/// The sides with one more, which has their equations, and none for the next one.
+fn with_side(alloc: Global, so_far: SidesSoFar, body: Exp) -> Result<SidesSoFar, AllocError>
+    ensures { let room = so_far.room in
+        let one = a_side so_far.equations (shallow_tree (room - 1) (tree_of body)) in
+        IfOk result (λ more. system_of (SideOf more)
+        ≡ WantSide (owner_of so_far.owner) (room - 1)
+        (keep_last room (sides_of so_far.sides) one) []) }
+{
+    let SidesSoFar {
+        owner,
+        room,
+        sides,
+        equations,
+    } = so_far;
+    let inner = room.saturating_sub(1);
+    let body = shallow(inner, body);
+    let sides = keep_side(sides, room, Side { equations, body })?;
+    Ok(SidesSoFar {
+        owner,
+        room: inner,
+        sides,
+        equations: Equations::new(alloc),
+    })
 }
 
 /// The type of a definition.
@@ -241,7 +275,7 @@ fn typed(
         Kind::Equals => {
             let stack = under(stack, Frame::Body(typing, ty))?;
             Ok(Parser {
-                top: Top::Exp(room),
+                top: Top::Exp { room },
                 past: past.skip(token),
                 stack,
             })
@@ -296,8 +330,9 @@ fn defined(
     match token.kind {
         Kind::Next => {
             let defs = with_def(Box::into_inner(typing), ty, body, Defs::new(alloc))?;
+            let room = room.saturating_sub(fall);
             Ok(Parser {
-                top: Top::Block(Block::Next(fall, room.saturating_sub(fall), defs)),
+                top: Top::Block(Block::Next { fall, room, defs }),
                 past: past.skip(token),
                 stack,
             })
@@ -306,7 +341,9 @@ fn defined(
             let frame = Frame::Where(typing, Box::new(alloc, ty)?, Box::new(alloc, body)?);
             let stack = under(stack, frame)?;
             Ok(Parser {
-                top: Top::Block(Block::Word(room.saturating_sub(1))),
+                top: Top::Block(Block::Word {
+                    room: room.saturating_sub(1),
+                }),
                 past: past.skip(token),
                 stack,
             })
@@ -350,8 +387,8 @@ fn close_in(
         token.end) }
 {
     match frame {
-        Frame::Let(room, start) => Ok(Parser {
-            top: Top::Block(Block::LetClose(room, start, defs)),
+        Frame::Let { room, start } => Ok(Parser {
+            top: Top::Block(Block::LetClose { room, start, defs }),
             past: past.skip(token),
             stack,
         }),
@@ -359,9 +396,9 @@ fn close_in(
             let fall = typing.fall;
             let room = typing.room;
             let typing = Box::into_inner(typing);
-            let all = with_def(typing, Box::into_inner(ty), Box::into_inner(body), defs)?;
+            let defs = with_def(typing, Box::into_inner(ty), Box::into_inner(body), defs)?;
             Ok(Parser {
-                top: Top::Block(Block::AfterDef(fall, room, all)),
+                top: Top::Block(Block::AfterDef { fall, room, defs }),
                 past: past.skip(token),
                 stack,
             })
@@ -418,22 +455,14 @@ pub fn deliver(
     while let Some(frame) = stack.pop() {
         match frame {
             Frame::Prefix(prefix) => exp = whole(alloc, prefix, exp, past)?,
-            Frame::Bracket(slot, start, room, before) => {
-                return component(alloc, slot, start, room, before, exp, past, stack, token);
-            }
-            Frame::Tele(purpose, whole, room, before, names) => {
-                return tele(purpose, whole, room, before, names, exp, past, stack, token);
-            }
-            Frame::Side(owner, room, before, equations) => {
-                return side(
-                    alloc, owner, room, before, equations, exp, past, stack, token,
-                );
-            }
+            Frame::Bracket(bracket) => return component(alloc, bracket, exp, past, stack, token),
+            Frame::Tele(teles, names) => return tele(teles, names, exp, past, stack, token),
+            Frame::Side(sides) => return side(alloc, sides, exp, past, stack, token),
             Frame::Type(typing) => return typed(typing, exp, past, stack, token),
             Frame::Body(typing, ty) => return defined(alloc, typing, ty, exp, past, stack, token),
-            Frame::Let(_room, _start) => return Err(Stop::Unexpected),
-            Frame::Where(_typing, _ty, _body) => return Err(Stop::Unexpected),
-            Frame::Module(_name, _imports) => return Err(Stop::Unexpected),
+            Frame::Let { .. } | Frame::Where(..) | Frame::Module(..) => {
+                return Err(Stop::Unexpected);
+            }
         }
     }
     Err(Stop::Unexpected)
@@ -448,15 +477,10 @@ pub fn finish_exp(alloc: Global, exp: Exp, past: Past, mut stack: Vec<Frame>) ->
     while let Some(frame) = stack.pop() {
         match frame {
             Frame::Prefix(prefix) => exp = whole(alloc, prefix, exp, past)?,
-            Frame::Bracket(_slot, _start, _room, _before) => return Err(Stop::Unexpected),
-            Frame::Tele(_purpose, _whole, _room, _before, _names) => return Err(Stop::Unexpected),
-            Frame::Side(_owner, _room, _before, _equations) => return Err(Stop::Unexpected),
-            Frame::Type(_typing) => return Err(Stop::Unexpected),
-            Frame::Body(_typing, _ty) => return Err(Stop::Unexpected),
+            Frame::Bracket(_) | Frame::Tele(..) | Frame::Side(_) => return Err(Stop::Unexpected),
+            Frame::Type(_) | Frame::Body(..) => return Err(Stop::Unexpected),
             // No text leads here.
-            Frame::Let(_room, _start) => return Ok(exp),
-            Frame::Where(_typing, _ty, _body) => return Ok(exp),
-            Frame::Module(_name, _imports) => return Ok(exp),
+            Frame::Let { .. } | Frame::Where(..) | Frame::Module(..) => return Ok(exp),
         }
     }
     Ok(exp)

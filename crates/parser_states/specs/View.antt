@@ -1,6 +1,7 @@
 -- The parser's values as those of the machine.
 use Rattle.std.specs.Prelude.{ℕ, ◌≡◌, ◌-◌, List, Option, Some, None, Result, Ok, Err, map}
 use Rattle.std.specs.Prelude.{reverse}
+use Rattle.layout_lexer.specs.declared.token.Span.{Span}
 use Rattle.layout_lexer.specs.declared.token.Token.{Token}
 use Rattle.syntax.specs.declared.exp.Exp.{Exp}
 use Rattle.syntax.specs.Tree.{Tree, Arrow, Let, PathLambda}
@@ -27,11 +28,14 @@ use Rattle.parser_states.specs.declared.state.HeldSlot.{HeldSlot}
 use Rattle.parser_states.specs.declared.state.HeldSlot.TheVariants as HS
 use Rattle.parser_states.specs.declared.state.Owner.{Owner}
 use Rattle.parser_states.specs.declared.state.Owner.TheVariants as O
+use Rattle.parser_states.specs.declared.state.SidesSoFar.{SidesSoFar}
 use Rattle.parser_states.specs.declared.state.Use.{Use}
 use Rattle.parser_states.specs.declared.state.Use.TheVariants as U
+use Rattle.parser_states.specs.declared.state.TelesSoFar.{TelesSoFar}
 use Rattle.parser_states.specs.declared.state.Binder.{Binder}
 use Rattle.parser_states.specs.declared.state.Binder.TheVariants as B
 use Rattle.parser_states.specs.declared.state.Typing.{Typing}
+use Rattle.parser_states.specs.declared.state.Bracket.{Bracket}
 use Rattle.parser_states.specs.declared.state.Frame.{Frame}
 use Rattle.parser_states.specs.declared.state.Frame.TheVariants as FR
 use Rattle.parser_states.specs.declared.state.Inner.{Inner}
@@ -51,6 +55,8 @@ use Rattle.parser_states.specs.declared.state.Names.{Names}
 use Rattle.parser_states.specs.declared.state.Names.TheVariants as NM
 use Rattle.parser_states.specs.declared.state.System.{System}
 use Rattle.parser_states.specs.declared.state.System.TheVariants as SY
+use Rattle.parser_states.specs.declared.state.BracketNames.{BracketNames}
+use Rattle.parser_states.specs.declared.state.Projected.{Projected}
 use Rattle.parser_states.specs.declared.state.Top.{Top}
 use Rattle.parser_states.specs.declared.state.Top.TheVariants as T
 use Rattle.parser_states.specs.declared.state.Parser.{Parser}
@@ -148,12 +154,21 @@ abbrev pub in_where : Typing → Exp → Exp → M.Frame
 in_where d t b =
     M.InWhere d.fall d.room (defs_of d.defs) d.name (teles_of d.teles) (tree_of t) (tree_of b)
 
+abbrev pub in_bracket : Bracket → M.Frame
+in_bracket x = M.InBracket (held_of x.slot) x.start x.room (exps_of x.before)
+
+abbrev pub in_tele : TelesSoFar → List Span → M.Frame
+in_tele x ns = M.InTele (use_of x.purpose) x.whole x.room (teles_of x.teles) ns
+
+abbrev pub in_side : SidesSoFar → M.Frame
+in_side x = M.InSide (owner_of x.owner) x.room (sides_of x.sides) x.equations
+
 abbrev pub frame_of : Frame → M.Frame
 frame_of (FR.Prefix b) = prefix_of b
-frame_of (FR.Bracket slot i r xs) = M.InBracket (held_of slot) i r (exps_of xs)
-frame_of (FR.Tele u r rt xs ns) = M.InTele (use_of u) r rt (teles_of xs) ns
+frame_of (FR.Bracket x) = in_bracket x
+frame_of (FR.Tele x ns) = in_tele x ns
 frame_of (FR.Let r i) = M.InLet r i
-frame_of (FR.Side o r ss eqs) = M.InSide (owner_of o.value) r (sides_of ss) eqs
+frame_of (FR.Side x) = in_side x.value
 frame_of (FR.Type d) = in_type d.value
 frame_of (FR.Body d t) = in_body d.value t
 frame_of (FR.Where d t b) = in_where d.value t.value b.value
@@ -198,17 +213,26 @@ abbrev pub names_of : Names → M.Top
 names_of (NM.PathSign r i) = M.WantPathName r i
 names_of (NM.Path r i ns rn) = M.PathName r i ns rn
 names_of (NM.Backslash r i) = M.WantTele r i
-names_of (NM.Tele u r rt xs) = M.TeleName (use_of u) r rt (teles_of xs)
-names_of (NM.TeleNames u r rt xs ns rn) = M.TeleMore (use_of u) r rt (teles_of xs) ns rn
-names_of (NM.AfterTele u r rt xs) = M.AfterTele (use_of u) r rt (teles_of xs)
+names_of (NM.Tele x) = M.TeleName (use_of x.purpose) x.whole x.room (teles_of x.teles)
+names_of (NM.TeleNames x ns rn) =
+    M.TeleMore (use_of x.purpose) x.whole x.room (teles_of x.teles) ns rn
+names_of (NM.AfterTele x) = M.AfterTele (use_of x.purpose) x.whole x.room (teles_of x.teles)
 
 abbrev pub system_of : System → M.Top
 system_of (SY.Open o) = M.SystemStart (owner_of o)
-system_of (SY.Side o r ss eqs) = M.WantSide (owner_of o) r (sides_of ss) eqs
-system_of (SY.Equation o r ss eqs) = M.EquationName (owner_of o) r (sides_of ss) eqs
-system_of (SY.Name o r ss eqs n) = M.EquationSign (owner_of o) r (sides_of ss) eqs n
-system_of (SY.Sign o r ss eqs n) = M.EquationEnd (owner_of o) r (sides_of ss) eqs n
-system_of (SY.End o r ss eqs) = M.EquationClose (owner_of o) r (sides_of ss) eqs
+system_of (SY.Side x) = M.WantSide (owner_of x.owner) x.room (sides_of x.sides) x.equations
+system_of (SY.Equation x) =
+    M.EquationName (owner_of x.owner) x.room (sides_of x.sides) x.equations
+system_of (SY.Name x n) =
+    M.EquationSign (owner_of x.owner) x.room (sides_of x.sides) x.equations n
+system_of (SY.Sign x n) = M.EquationEnd (owner_of x.owner) x.room (sides_of x.sides) x.equations n
+system_of (SY.End x) = M.EquationClose (owner_of x.owner) x.room (sides_of x.sides) x.equations
+
+abbrev pub maybe_of : BracketNames → M.Top
+maybe_of x = M.Maybe x.room x.start x.names x.next (place_of x.place) x.last x.deep
+
+abbrev pub projected_of : Projected → M.Top
+projected_of x = M.Projected (slot_of x.slot) x.next x.start (tree_of x.exp) x.projections
 
 abbrev pub top_of : Top → M.Top
 top_of (T.Heading t) = heading_of t
@@ -219,8 +243,8 @@ top_of (T.Exp r) = M.WantExp r
 top_of (T.Exp1 r) = M.WantExp1 r
 top_of (T.Names t) = names_of t
 top_of (T.Opened r i) = M.Opened r i
-top_of (T.Maybe r i ns rn pl n d) = M.Maybe r i ns rn (place_of pl) n d
-top_of (T.Projected slot rn i x hs) = M.Projected (slot_of slot) rn i (tree_of x) hs
+top_of (T.Maybe x) = maybe_of x
+top_of (T.Projected x) = projected_of x
 top_of (T.Given t) = given_of t
 top_of (T.Neg x i fs r) = M.WantNeg (spine_of x.value) i (inners_of fs.items) r
 top_of (T.HaveNeg x i fs f) = have_neg x.value i fs.items f

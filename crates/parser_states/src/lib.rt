@@ -20,7 +20,8 @@ pub use lists::{
     spanned, under, with_name,
 };
 pub use state::{
-    Binder, Block, Frame, Given, Heading, HeldSlot, Inner, Items, Named, Names, Operand, Owner,
-    Parser, Place, Prefix, Slot, Spine, Stop, System, Top, Typing, Use,
+    Binder, Block, Bracket, BracketNames, Frame, Given, Heading, HeldSlot, Inner, Items, Named,
+    Names, Operand, Owner, Parser, Place, Prefix, Projected, SidesSoFar, Slot, Spine, Stop, System,
+    TelesSoFar, Top, Typing, Use,
 };
 pub use words::{Composing, FormWord, Gluing, Pairing, form_word};

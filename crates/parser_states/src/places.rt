@@ -18,7 +18,7 @@ impl Place {
         ensures { result ≡ room_of (place_of self.now) }
     {
         match self {
-            Place::Head(room, _start) => *room,
+            Place::Head { room, .. } => *room,
             Place::Element(spine) => spine.next,
         }
     }
@@ -32,9 +32,9 @@ impl Slot {
     {
         match self {
             Slot::Whole(place) => place.room(),
-            Slot::First(_word, _start, place) => place.room(),
-            Slot::Second(_word, _start, _first, place) => place.room(),
-            Slot::Third(_start, _first, _second, place) => place.room(),
+            Slot::First { place, .. } => place.room(),
+            Slot::Second { place, .. } => place.room(),
+            Slot::Third { place, .. } => place.room(),
         }
     }
 
@@ -44,7 +44,7 @@ impl Slot {
         ensures { IfOk result (λ held. held_of held ≡ slot_of self) }
     {
         match self {
-            Slot::Whole(Place::Head(room, start)) => Ok(HeldSlot::Head(room, start)),
+            Slot::Whole(Place::Head { room, start }) => Ok(HeldSlot::Head { room, start }),
             other => Ok(HeldSlot::Other(Box::new(alloc, other)?)),
         }
     }
@@ -57,7 +57,7 @@ impl HeldSlot {
         ensures { slot_of result ≡ held_of self }
     {
         match self {
-            HeldSlot::Head(room, start) => Slot::Whole(Place::Head(room, start)),
+            HeldSlot::Head { room, start } => Slot::Whole(Place::Head { room, start }),
             HeldSlot::Other(slot) => Box::into_inner(slot),
         }
     }
@@ -70,8 +70,8 @@ impl Owner {
         ensures { result ≡ room_of_owner (owner_of self.now) }
     {
         match self {
-            Owner::Composing(_word, _start, _line, _base, place) => place.room(),
-            Owner::Gluing(_word, _start, _base, place) => place.room(),
+            Owner::Composing { place, .. } => place.room(),
+            Owner::Gluing { place, .. } => place.room(),
         }
     }
 }

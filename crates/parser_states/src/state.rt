@@ -27,32 +27,66 @@ pub struct Spine {
 /// Where an expression of an application stands: it is the first, or an element.
 #[derive(Drop)]
 pub enum Place {
-    Head(u32, u32),
+    Head { room: u32, start: u32 },
     Element(Box<Spine>),
 }
 
 /// Where an expression with its projections stands: in an application, or as an argument of a form
-/// that began with a word at a start.
+/// that began with a word.
 #[derive(Drop)]
 pub enum Slot {
     Whole(Place),
-    First(FormWord, u32, Place),
-    Second(Pairing, u32, Box<Exp>, Place),
-    Third(u32, Box<Exp>, Box<Exp>, Place),
+    First {
+        word: FormWord,
+        start: u32,
+        place: Place,
+    },
+    Second {
+        word: Pairing,
+        start: u32,
+        first: Box<Exp>,
+        place: Place,
+    },
+    Third {
+        start: u32,
+        first: Box<Exp>,
+        second: Box<Exp>,
+        place: Place,
+    },
 }
 
 /// A slot in few bytes, so that deep texts take little memory.
 #[derive(Drop)]
 pub enum HeldSlot {
-    Head(u32, u32),
+    Head { room: u32, start: u32 },
     Other(Box<Slot>),
 }
 
-/// The form that a system ends, which began at a start.
+/// The form that a system ends.
 #[derive(Drop)]
 pub enum Owner {
-    Composing(Composing, u32, Box<Exp>, Box<Exp>, Place),
-    Gluing(Gluing, u32, Box<Exp>, Place),
+    Composing {
+        word: Composing,
+        start: u32,
+        line: Box<Exp>,
+        base: Box<Exp>,
+        place: Place,
+    },
+    Gluing {
+        word: Gluing,
+        start: u32,
+        base: Box<Exp>,
+        place: Place,
+    },
+}
+
+/// A system so far: its sides, and the equations of the next one, which has this room.
+#[derive(Drop)]
+pub struct SidesSoFar {
+    pub owner: Owner,
+    pub room: u32,
+    pub sides: Sides,
+    pub equations: Equations,
 }
 
 /// What comes after an expression that was put into its place.
@@ -75,12 +109,23 @@ pub struct Named {
     pub name: Span,
 }
 
-/// What teles are for; the first two start at a place.
+/// What teles are for.
 #[derive(Drop)]
 pub enum Use {
-    Lambda(u32),
-    Product(u32),
+    Lambda { start: u32 },
+    Product { start: u32 },
     Def(Box<Named>),
+}
+
+/// Teles so far, where another one begins or is being read.
+#[derive(Drop)]
+pub struct TelesSoFar {
+    pub purpose: Use,
+    /// The room of what they are for.
+    pub whole: u32,
+    /// The room of the next tele.
+    pub room: u32,
+    pub teles: Teles,
 }
 
 /// What binds the names of teles.
@@ -101,29 +146,52 @@ pub struct Typing {
     pub teles: Teles,
 }
 
-/// What stands before an expression that it ends with: the room and the start of the whole, and the
-/// rest of it.
+/// What stands before an expression that it ends with. Room and start are those of the whole.
 #[derive(Drop)]
 pub enum Prefix {
-    Arrow(u32, u32, Exp),
-    Binder(Binder, u32, u32, Teles),
-    Path(u32, u32, Spans),
-    LetBody(u32, u32, Defs),
+    Arrow {
+        room: u32,
+        start: u32,
+        from: Exp,
+    },
+    Binder {
+        binder: Binder,
+        room: u32,
+        start: u32,
+        teles: Teles,
+    },
+    Path {
+        room: u32,
+        start: u32,
+        names: Spans,
+    },
+    LetBody {
+        room: u32,
+        start: u32,
+        defs: Defs,
+    },
+}
+
+/// A bracket with the components before the one that is being read, which has this room.
+#[derive(Drop)]
+pub struct Bracket {
+    pub slot: HeldSlot,
+    pub start: u32,
+    pub room: u32,
+    pub before: Exps,
 }
 
 /// What is open round the place.
 #[derive(Drop)]
 pub enum Frame {
     Prefix(Prefix),
-    /// A slot, where the bracket starts, the room of the component that is being read, and those
-    /// before it.
-    Bracket(HeldSlot, u32, u32, Exps),
-    /// The rooms of the whole and of this tele, the teles before it, and its names.
-    Tele(Use, u32, u32, Teles, Spans),
-    /// The room and the start of the whole.
-    Let(u32, u32),
-    /// The room of this side, the sides before it, and its equations.
-    Side(Box<Owner>, u32, Sides, Equations),
+    Bracket(Bracket),
+    /// The teles before the one whose type is being read, and its names.
+    Tele(TelesSoFar, Spans),
+    /// Room and start are those of the whole.
+    Let { room: u32, start: u32 },
+    /// The expression of a side is being read.
+    Side(Box<SidesSoFar>),
     Type(Box<Typing>),
     Body(Box<Typing>, Exp),
     /// A definition with its type and its body.
@@ -131,14 +199,27 @@ pub enum Frame {
     Module(Span, Spans),
 }
 
-/// What is open round a place of a formula: room and start of the whole, and what stands left of
-/// the operator.
+/// What is open round a place of a formula. Room and start are those of the whole.
 #[derive(Drop)]
 pub enum Inner {
-    Negation(u32, u32),
-    Meet(u32, u32, Formula),
-    Join(u32, u32, Formula),
-    Parens(u32, u32),
+    Negation {
+        room: u32,
+        start: u32,
+    },
+    Meet {
+        room: u32,
+        start: u32,
+        left: Formula,
+    },
+    Join {
+        room: u32,
+        start: u32,
+        left: Formula,
+    },
+    Parens {
+        room: u32,
+        start: u32,
+    },
 }
 
 /// An operand of a formula, with its room and its start.
@@ -170,38 +251,76 @@ pub enum Items {
 /// What was read of a block, of definitions that each have `fall` less room than the one before.
 #[derive(Drop)]
 pub enum Block {
-    Word(u32),
-    Open(u32),
-    Next(u32, u32, Defs),
-    AfterDef(u32, u32, Defs),
-    /// The room and the start of the whole.
-    LetClose(u32, u32, Defs),
+    Word { room: u32 },
+    Open { room: u32 },
+    Next { fall: u32, room: u32, defs: Defs },
+    AfterDef { fall: u32, room: u32, defs: Defs },
+    /// Room and start are those of the whole.
+    LetClose { room: u32, start: u32, defs: Defs },
 }
 
-/// What was read of names and teles.
+/// What was read of names and teles. Room and start are those of the whole, and next is the room of
+/// the next name.
 #[derive(Drop)]
 pub enum Names {
-    /// The room and the start of the whole.
-    PathSign(u32, u32),
-    /// The names so far, and the room of the next one.
-    Path(u32, u32, Spans, u32),
-    Backslash(u32, u32),
-    /// The rooms of the whole and of this tele, and the teles before it.
-    Tele(Use, u32, u32, Teles),
-    TeleNames(Use, u32, u32, Teles, Spans, u32),
-    AfterTele(Use, u32, u32, Teles),
+    PathSign {
+        room: u32,
+        start: u32,
+    },
+    Path {
+        room: u32,
+        start: u32,
+        names: Spans,
+        next: u32,
+    },
+    Backslash {
+        room: u32,
+        start: u32,
+    },
+    Tele(TelesSoFar),
+    TeleNames {
+        teles: TelesSoFar,
+        names: Spans,
+        next: u32,
+    },
+    AfterTele(TelesSoFar),
 }
 
-/// What was read of a system: the sides so far, and the equations of the next one, which has this
-/// room.
+/// What was read of a system. The span is the name of an equation.
 #[derive(Drop)]
 pub enum System {
     Open(Owner),
-    Side(Owner, u32, Sides, Equations),
-    Equation(Owner, u32, Sides, Equations),
-    Name(Owner, u32, Sides, Equations, Span),
-    Sign(Owner, u32, Sides, Equations, Span),
-    End(Owner, u32, Sides, Equations),
+    Side(SidesSoFar),
+    Equation(SidesSoFar),
+    Name(SidesSoFar, Span),
+    Sign(SidesSoFar, Span),
+    End(SidesSoFar),
+}
+
+/// Names in a bracket: of a tele, or of an application in which the last one stands in this place.
+#[derive(Drop)]
+pub struct BracketNames {
+    /// The room of the whole.
+    pub room: u32,
+    pub start: u32,
+    pub names: Spans,
+    /// The room of the next name of a tele.
+    pub next: u32,
+    pub place: Place,
+    pub last: Span,
+    /// The first place that is too deep, if it is an application.
+    pub deep: Option<u32>,
+}
+
+/// An expression with its projections so far.
+#[derive(Drop)]
+pub struct Projected {
+    pub slot: Slot,
+    /// The room of the next projection.
+    pub next: u32,
+    pub start: u32,
+    pub exp: Exp,
+    pub projections: Projections,
 }
 
 /// What was read last, and so what may come next.
@@ -211,18 +330,35 @@ pub enum Top {
     Items(Items),
     Block(Block),
     Done(Module),
-    Exp(u32),
-    Exp1(u32),
+    Exp {
+        room: u32,
+    },
+    Exp1 {
+        room: u32,
+    },
     Names(Names),
-    Opened(u32, u32),
-    /// Names in a bracket: of a tele, or of an application, where the last one stands in this
-    /// place.
-    Maybe(u32, u32, Spans, u32, Place, Span, Option<u32>),
-    Projected(Slot, u32, u32, Exp, Projections),
+    /// After a bracket.
+    Opened {
+        room: u32,
+        start: u32,
+    },
+    Maybe(BracketNames),
+    Projected(Projected),
     Given(Given),
-    /// After a sign `@` at a start, or inside its formula.
-    Neg(Box<Spine>, u32, Vec<Inner>, u32),
-    HaveNeg(Box<Spine>, u32, Vec<Inner>, Operand),
+    /// After a sign `@` at a place, or inside its formula, where an operand of this room comes.
+    Neg {
+        spine: Box<Spine>,
+        at: u32,
+        frames: Vec<Inner>,
+        room: u32,
+    },
+    /// The same after an operand.
+    HaveNeg {
+        spine: Box<Spine>,
+        at: u32,
+        frames: Vec<Inner>,
+        operand: Operand,
+    },
     System(System),
 }
 

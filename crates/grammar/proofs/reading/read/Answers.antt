@@ -6,12 +6,12 @@ use Rattle.grammar.proofs.reading.read.Goals as goal
 pub overflow_cast-size : goal.overflow_cast-size
 overflow_cast-size c = grind (arith, short c.args.bytes.now c.args.tokens.now c.requires)
 
-pub returns-in-Module-clause-ok : goal.returns-in-Module-clause-ok
-returns-in-Module-clause-ok c =
-    module_read c.as_slice.result.now c.args.tokens.now 0 c.in-Module.module (rw c.in-Module.is at c.in-Ok.ensures) c.as_slice.ensures
+pub returns-in-Ok-Module-clause-ok : goal.returns-in-Ok-Module-clause-ok
+returns-in-Ok-Module-clause-ok c =
+    module_read c.as_slice.result.now c.args.tokens.now 0 c.in-Ok-Module.module (rw c.in-Ok-Module.field-0-is at c.in-Ok-Module.ensures) c.as_slice.ensures
 
-pub returns-in-Exp-clause-err : goal.returns-in-Exp-clause-err
-returns-in-Exp-clause-err c = absurd (module_is_no_exp c.as_slice.result.now 0 c.in-Exp._exp (rw c.in-Exp.is at c.in-Ok.ensures))
+pub unreachable-requires : goal.unreachable-requires
+unreachable-requires c = module_is_no_exp c.as_slice.result.now 0 c.in-Ok-Exp._exp (rw c.in-Ok-Exp.field-0-is at c.in-Ok-Exp.ensures)
 
 pub returns-in-Err-clause-err : goal.returns-in-Err-clause-err
 returns-in-Err-clause-err c =

@@ -6,12 +6,12 @@ use Rattle.grammar.proofs.reading.read_exp.Goals as goal
 pub overflow_cast-size : goal.overflow_cast-size
 overflow_cast-size c = grind (arith, short c.args.bytes.now c.args.tokens.now c.requires)
 
-pub returns-in-Exp-clause-ok : goal.returns-in-Exp-clause-ok
-returns-in-Exp-clause-ok c =
-    exp_read c.as_slice.result.now c.args.tokens.now 0 c.in-Exp.exp (rw c.in-Exp.is at c.in-Ok.ensures) c.as_slice.ensures
+pub returns-in-Ok-Exp-clause-ok : goal.returns-in-Ok-Exp-clause-ok
+returns-in-Ok-Exp-clause-ok c =
+    exp_read c.as_slice.result.now c.args.tokens.now 0 c.in-Ok-Exp.exp (rw c.in-Ok-Exp.field-0-is at c.in-Ok-Exp.ensures) c.as_slice.ensures
 
-pub returns-in-Module-clause-err : goal.returns-in-Module-clause-err
-returns-in-Module-clause-err c = absurd (exp_is_no_module c.as_slice.result.now 0 c.in-Module._module (rw c.in-Module.is at c.in-Ok.ensures))
+pub unreachable-requires : goal.unreachable-requires
+unreachable-requires c = exp_is_no_module c.as_slice.result.now 0 c.in-Ok-Module._module (rw c.in-Ok-Module.field-0-is at c.in-Ok-Module.ensures)
 
 pub returns-in-Err-clause-err : goal.returns-in-Err-clause-err
 returns-in-Err-clause-err c =

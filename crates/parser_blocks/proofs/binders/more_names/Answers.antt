@@ -6,4 +6,5 @@ use Rattle.parser_blocks.proofs.binders.more_names.Goals as goal
 pub returns-in_default : goal.returns-in_default
 returns-in_default c =
     let n = c.in_default in
-    more_none (use_of c.args.purpose) c.args.whole c.args.room (teles_of c.args.teles) c.args.names c.args.next c.args.past (stack_of c.args.stack.items) c.args.token.start c.args.token.end c.args.token.kind n.not-Identifier n.not-Colon
+    let x = c.args.teles in
+    more_none (use_of x.purpose) x.whole x.room (teles_of x.teles) c.args.names c.args.next c.args.past (stack_of c.args.stack.items) c.args.token.start c.args.token.end c.args.token.kind n.not-Identifier n.not-Colon

@@ -6,4 +6,5 @@ use Rattle.parser_blocks.proofs.systems.side.Goals as goal
 pub returns-in_default : goal.returns-in_default
 returns-in_default c =
     let n = c.in_default in
-    side_none (owner_of c.args.owner) c.args.room (sides_of c.args.sides) c.args.equations c.args.past (stack_of c.args.stack.items) c.args.token.start c.args.token.end c.args.token.kind n.not-LeftParen n.not-Arrow
+    let x = c.args.sides in
+    side_none (owner_of x.owner) x.room (sides_of x.sides) x.equations c.args.past (stack_of c.args.stack.items) c.args.token.start c.args.token.end c.args.token.kind n.not-LeftParen n.not-Arrow

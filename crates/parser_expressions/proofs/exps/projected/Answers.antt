@@ -6,7 +6,7 @@ use Rattle.parser_expressions.proofs.exps.projected.Goals as goal
 
 pub returns-in_ok-parts-in-None : goal.returns-in_ok-parts-in-None
 returns-in_ok-parts-in-None c =
-    let a = c.args in
+    let x = c.args.part in
     let t = c.args.token in
-    rw (projected_other (slot_of a.slot) a.next a.start (tree_of a.exp) a.projections a.past (stack_of a.stack.items) t.start t.end (word_of t.kind) c.in-None.ensures)
-    (rw (c.in_ok-parts-in-None.ensures, c.in_ok-whole-in-None.ensures) at c.given.ensures)
+    rw (projected_other (slot_of x.slot) x.next x.start (tree_of x.exp) x.projections c.args.past (stack_of c.args.stack.items) t.start t.end (word_of t.kind) c.in-None.ensures)
+    (rw c.in_ok-parts-in-None.ensures at c.given.ensures)

@@ -3,7 +3,7 @@ use Rattle.std.proofs.lemmas.Bool.Decides.{nat_tests}
 use Rattle.syntax.specs.View.{tree_of}
 use Rattle.productions.specs.Grammar.{from}
 use Rattle.parser_expressions.proofs.Places.{some_applied}
-use Rattle.parser_expressions.proofs.exps.applied.Goals as goal
+use Rattle.parser_expressions.proofs.slots.applied.Goals as goal
 
 pub returns : goal.returns
 returns c =
