@@ -373,3 +373,23 @@ fn lists_and_texts_hold_what_they_are_given(rt: HostRuntime) -> Result<(), Fail>
     assert_eq!(rt; text.as_str(), "ℕ");
     Ok(())
 }
+
+fn assert_slice(rt: &impl Abort, bytes: &[u8], start: u32, end: u32, wanted: &[u8]) {
+    let span = Span { start, end };
+    assert_eq!(rt; span.slice(bytes), wanted, "of {span:?}");
+}
+
+#[test]
+fn spans_have_bytes(rt: HostRuntime) {
+    let rows: [(u32, u32, &[u8]); 6] = [
+        (0, 3, b"let"),
+        (1, 2, b"e"),
+        (2, 2, b""),
+        (1, 9, b"et"),
+        (7, 9, b""),
+        (2, 1, b""),
+    ];
+    for (start, end, wanted) in rows {
+        assert_slice(&rt, b"let", start, end, wanted);
+    }
+}
