@@ -9,3 +9,5 @@ pub mod Openings
 pub mod Applied
 pub mod Slices
 pub mod NatLaws
+pub mod Insides
+pub mod OpenedTexts

@@ -306,7 +306,7 @@ wrap bytes names T (Side s) c o n h = (c, refl, h)
 wrap bytes names T (Pair s) c o n h = (c, refl, h)
 
 -- the forms that stand out: names, lambdas, and what is in brackets
-abbrev IsAnother : text.Tree → Type 0
+abbrev pub IsAnother : text.Tree → Type 0
 IsAnother (text.Name n) = ⊥
 IsAnother (text.Lambda s xs e) = ⊥
 IsAnother (text.PathLambda s ns e) = ⊥
@@ -314,14 +314,14 @@ IsAnother (text.Brackets s es) = ⊥
 IsAnother (text.At s f) = ⊥
 IsAnother _ = Unit {0}
 
-data Form (e : Exp) : Type 0 where
+pub data Form (e : Exp) : Type 0 where
   a_name : (n : Span) → e ≡ Name_ n → Form e
   a_lambda : (s : Span) (xs : Teles) (p : Box Exp Global) → e ≡ Lambda_ s xs p → Form e
   a_path : (s : Span) (ns : List Span) (p : Box Exp Global) → e ≡ PathLambda_ s ns p → Form e
   in_brackets : (s : Span) (es : Exps) → e ≡ Brackets_ s es → Form e
   another : IsAnother (tree_of e) → Form e
 
-form_of : (e : Exp) → Form e
+pub form_of : (e : Exp) → Form e
 form_of e = subst Form (roll-out-Exp e) (elim (out-Exp e) as (λ x. Form (roll-Exp x)) [
   | Exp-F.Let a b c ↦ subst Form (sym (rolls-Let a b c)) (another tt)
   | Exp-F.Lambda a b c ↦ subst Form (sym (rolls-Lambda a b c)) (a_lambda a b c refl)
@@ -379,7 +379,7 @@ never_pair (text.Lambda s xs e) p m = m
 never_pair T p m = m
 
 -- a text that is no name
-no_name : (e : Exp) → ((n : Span) → e ≡ Name_ n → ⊥) → (n : Span) → tree_of e ≡ text.Name n → ⊥
+pub no_name : (e : Exp) → ((n : Span) → e ≡ Name_ n → ⊥) → (n : Span) → tree_of e ≡ text.Name n → ⊥
 no_name e name n k = elim (form_of e) [
   | a_name m h ↦ name m h
   | a_lambda s xs p h ↦ absurd (let i = ap tree_of h in cc)
@@ -623,15 +623,15 @@ module _ {bytes : List ℕ} {names : List Named} where
 where_none : {A : Type 0} (o : Option A) (Is : A → Type 0) (Otherwise : Type 0) → o ≡ None → Otherwise → where_found o Is Otherwise
 where_none o Is Otherwise e h = subst (λ x. where_found x Is Otherwise) (sym e) h
 
-where_some : {A : Type 0} (o : Option A) (a : A) (Is : A → Type 0) (Otherwise : Type 0) → o ≡ Some a → Is a → where_found o Is Otherwise
+pub where_some : {A : Type 0} (o : Option A) (a : A) (Is : A → Type 0) (Otherwise : Type 0) → o ≡ Some a → Is a → where_found o Is Otherwise
 where_some o a Is Otherwise e h = subst (λ x. where_found x Is Otherwise) (sym e) h
 
-other_opened : (bytes : List ℕ) (names : List Named) (s : Span) (ns : List Span) (t : text.Tree) (xs : text.Trees) (e : text.Tree) (p : Span) (c : Shape) → nat_in bytes names t ≡ None
+pub other_opened : (bytes : List ℕ) (names : List Named) (s : Span) (ns : List Span) (t : text.Tree) (xs : text.Trees) (e : text.Tree) (p : Span) (c : Shape) → nat_in bytes names t ≡ None
     → Becomes bytes (text.Lambda s (text.more (text.Tele ns t) xs) e) names Term c → Becomes bytes (text.Lambda s (text.more (text.Tele ns t) xs) e) names (Motive p) (code.Applied p c)
 other_opened bytes names s [] t xs e p c none h = (c, refl, h)
 other_opened bytes names s (n ∷ ns) t xs e p c none h = where_none (nat_in bytes names t) _ _ none (c, refl, h)
 
-nothing_opened : (bytes : List ℕ) (names : List Named) (s : Span) (ns : List Span) (t : text.Tree) (xs : text.Trees) (e : text.Tree) (p : Span) (c : Shape) → ns ≡ []
+pub nothing_opened : (bytes : List ℕ) (names : List Named) (s : Span) (ns : List Span) (t : text.Tree) (xs : text.Trees) (e : text.Tree) (p : Span) (c : Shape) → ns ≡ []
     → Becomes bytes (text.Lambda s (text.more (text.Tele ns t) xs) e) names Term c → Becomes bytes (text.Lambda s (text.more (text.Tele ns t) xs) e) names (Motive p) (code.Applied p c)
 nothing_opened bytes names s [] t xs e p c none h = (c, refl, h)
 nothing_opened bytes names s (n ∷ ns) t xs e p c none h = absurd (let k = none in cc)

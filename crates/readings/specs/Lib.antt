@@ -1,2 +1,5 @@
-pub mod Spelt
+pub mod Arguments
+pub mod Opened
+pub mod Opening
 pub mod Shaped
+pub mod Spelt

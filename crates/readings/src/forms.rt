@@ -36,7 +36,7 @@ pub fn arrow(alloc: Global, span: Span, ty: Code, body: Code) -> Result<Code, Al
 
 /// `\ (names : nat) -> body`, where so many names are written and `nat` stands there; over no
 /// names, the body.
-pub fn over_numbers(
+pub(crate) fn over_numbers(
     alloc: Global,
     span: Span,
     names: usize,

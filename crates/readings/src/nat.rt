@@ -8,6 +8,7 @@ ghost use Rattle.scopes.specs.Steps.{Agree};
 ghost use Rattle.readings.specs.Shaped.{nat_in};
 ghost use Rattle.readings.specs.Spelt.{is_nat_of};
 
+use crate::bare::bare;
 use layout_lexer::Span;
 use references::References;
 use scopes::{Found, Place};
@@ -15,38 +16,19 @@ use syntax::Exp;
 use translation::BuiltIn;
 
 /// Where the text is the built-in `nat`, in any brackets, and nowhere else: its name.
-pub fn built_in_nat<'a>(names: &References<'a>, place: &Place<'a>, exp: &Exp) -> Option<Span>
+pub(crate) fn built_in_nat<'a>(names: &References<'a>, place: &Place<'a>, exp: &Exp) -> Option<Span>
     ensures told { (G : Scope Word) (H : Scope ℕ) → Agree place.now G H
         → is_nat_of names.now.bytes.now exp.now G ≡ is_some result }
     ensures named { result ≡ nat_in names.now.bytes.now place.now.names (tree_of exp.now) }
 {
-    match exp {
-        Exp::Name { span } => match place.find(names.spelling(*span)) {
-            Found::BuiltIn(BuiltIn::Nat) => Some(*span),
-            Found::BuiltIn(BuiltIn::Zero) => None,
-            Found::BuiltIn(BuiltIn::Suc) => None,
-            Found::BuiltIn(BuiltIn::NatRec) => None,
-            Found::Variable(_) => None,
-            Found::Interval(_) => None,
-            Found::Definition(_) => None,
-            Found::Nothing => None,
-        },
-        Exp::Brackets {
-            span: _,
-            components,
-        } => match components.as_slice() {
-            [only] => built_in_nat(names, place, only),
-            [] => None,
-            [_, _, ..] => None,
-        },
-        Exp::PathLambda {
-            span: _,
-            names: bound,
-            body,
-        } => match bound.as_slice() {
-            [] => built_in_nat(names, place, body),
-            [_, ..] => None,
-        },
+    let Exp::Name { span } = bare(exp) else {
+        return None;
+    };
+    let Found::BuiltIn(built_in) = place.find(names.spelling(*span)) else {
+        return None;
+    };
+    match built_in {
+        BuiltIn::Nat => Some(*span),
         _ => None,
     }
 }

@@ -27,11 +27,10 @@ ghost use Rattle.readings.specs.Spelt.{
 };
 ghost use Rattle.resolver.specs.Forms.{IsApply, IsProject};
 
-use crate::arguments::first_argument;
 use crate::resolving::Resolver;
 use codes::{Code, Element};
 use layout_lexer::Span;
-use readings::projected;
+use readings::{first_argument, projected};
 use scopes::{Found, Place};
 use std::alloc::AllocError;
 use syntax::Element::{Argument, At};

@@ -18,9 +18,8 @@ ghost use Rattle.readings.specs.Spelt.{
 };
 
 use crate::resolving::Resolver;
-use crate::teles::binder;
 use codes::{Binder, CodeDef};
-use readings::with_locals;
+use readings::{binder, with_locals};
 use scopes::Place;
 use std::alloc::AllocError;
 use syntax::{Def, Tele};

@@ -11,17 +11,14 @@
 #![tactic(auto)]
 
 mod applied;
-mod arguments;
 mod binding;
 mod defs;
 mod exps;
 mod gluing;
 mod kan;
 mod opened;
-mod opening;
 mod resolving;
 mod systems;
-mod teles;
 
 pub use codes::{
     Binder, Code, CodeDef, Element, Equation, Formula, LineSide, Opened, PairSide, Side,

@@ -5,11 +5,10 @@ ghost use Rattle.scopes.specs.Steps.{Resolves};
 ghost use Rattle.readings.specs.Shaped.{IsLine, IsMotive};
 ghost use Rattle.readings.specs.Spelt.{code_line, code_motive, line_of, motive_of};
 
-use crate::opening::{line_under, motive_under, open_at};
 use crate::resolving::Resolver;
 use codes::{Code, Opened};
 use layout_lexer::Span;
-use readings::built_in_nat;
+use readings::{LineText, MotiveText, line_text, line_under, motive_text, motive_under, open_at};
 use scopes::{Binding, Place};
 use std::alloc::AllocError;
 use syntax::Exp;
@@ -28,30 +27,15 @@ impl<'a> Resolver<'a> {
         ensures spelt { IfOk result (λ l.
             IsLine self.now.names.bytes.now place.old.names span exp.now l) }
     {
-        match exp {
-            Exp::Brackets {
-                span: _,
-                components,
-            } => match components.as_slice() {
-                [only] => self.line(place, span, only),
-                [] => Ok(Opened::Applied(span, self.exp(place, exp)?)),
-                [_, _, ..] => Ok(Opened::Applied(span, self.exp(place, exp)?)),
-            },
-            Exp::PathLambda {
-                span: _,
-                names,
-                body,
-            } => match names.as_slice() {
-                [] => self.line(place, span, body),
-                [first, rest @ ..] => {
-                    let mark = place.mark();
-                    open_at(&self.names, place, *first, rest, Binding::Interval)?;
-                    let body = self.exp(place, body)?;
-                    place.cut(mark);
-                    line_under(self.names.alloc, span, rest.len(), body)
-                }
-            },
-            _ => Ok(Opened::Applied(span, self.exp(place, exp)?)),
+        match line_text(exp) {
+            LineText::Under { name, others, body } => {
+                let mark = place.mark();
+                open_at(&self.names, place, name, others, Binding::Interval)?;
+                let body = self.exp(place, body)?;
+                place.cut(mark);
+                line_under(self.names.alloc, span, others.len(), body)
+            }
+            LineText::Applied => Ok(Opened::Applied(span, self.exp(place, exp)?)),
         }
     }
 
@@ -69,48 +53,24 @@ impl<'a> Resolver<'a> {
         ensures spelt { IfOk result (λ m.
             IsMotive self.now.names.bytes.now place.old.names span exp.now m) }
     {
-        match exp {
-            Exp::Brackets {
-                span: _,
-                components,
-            } => match components.as_slice() {
-                [only] => self.motive(place, span, only),
-                [] => Ok(Opened::Applied(span, self.exp(place, exp)?)),
-                [_, _, ..] => Ok(Opened::Applied(span, self.exp(place, exp)?)),
-            },
-            Exp::PathLambda {
-                span: _,
-                names,
-                body,
-            } => match names.as_slice() {
-                [] => self.motive(place, span, body),
-                [_, ..] => Ok(Opened::Applied(span, self.exp(place, exp)?)),
-            },
-            Exp::Lambda {
-                span: _,
+        match motive_text(&self.names, place, exp) {
+            MotiveText::Under {
+                name,
+                others,
+                nat,
                 teles,
                 body,
-            } => match teles.as_slice() {
-                [] => self.motive(place, span, body),
-                [first, rest @ ..] => {
-                    let nat = built_in_nat(&self.names, place, &first.ty);
-                    match (nat, first.names.as_slice()) {
-                        (Some(nat), [name, others @ ..]) => {
-                            let mark = place.mark();
-                            open_at(&self.names, place, *name, others, Binding::Variable)?;
-                            let binders = self.binders(place, rest)?;
-                            let body = self.exp(place, body)?;
-                            place.cut(mark);
-                            let alloc = self.names.alloc;
-                            let body = Code::lambda(alloc, span, binders, body)?;
-                            motive_under(alloc, span, others.len(), nat, body)
-                        }
-                        (Some(_), []) => Ok(Opened::Applied(span, self.exp(place, exp)?)),
-                        (None, _) => Ok(Opened::Applied(span, self.exp(place, exp)?)),
-                    }
-                }
-            },
-            _ => Ok(Opened::Applied(span, self.exp(place, exp)?)),
+            } => {
+                let alloc = self.names.alloc;
+                let mark = place.mark();
+                open_at(&self.names, place, name, others, Binding::Variable)?;
+                let binders = self.binders(place, teles)?;
+                let body = self.exp(place, body)?;
+                place.cut(mark);
+                let body = Code::lambda(alloc, span, binders, body)?;
+                motive_under(alloc, span, others.len(), nat, body)
+            }
+            MotiveText::Applied => Ok(Opened::Applied(span, self.exp(place, exp)?)),
         }
     }
 }

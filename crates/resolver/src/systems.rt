@@ -19,7 +19,7 @@ ghost use Rattle.readings.specs.Spelt.{
 use crate::resolving::Resolver;
 use codes::{Code, LineSide, PairSide, Side};
 use layout_lexer::Span;
-use readings::tuple;
+use readings::{PairText, pair_text, tuple};
 use scopes::Place;
 use std::alloc::AllocError;
 use syntax::Exp;
@@ -115,30 +115,17 @@ impl<'a> Resolver<'a> {
         ensures spelt { IfOk result (λ p.
             IsPair self.now.names.bytes.now place.old.names span exp.now p.ty p.equivalence) }
     {
-        match exp {
-            Exp::Brackets {
-                span: inner,
-                components,
-            } => match components.as_slice() {
-                [] => self.no_pair(place, span, exp),
-                [first, rest @ ..] => match rest {
-                    [] => self.pair(place, span, first),
-                    [_, ..] => {
-                        let ty = self.exp(place, first)?;
-                        let equivalence = tuple(*inner, self.exps(place, rest)?);
-                        Ok(Pair { ty, equivalence })
-                    }
-                },
-            },
-            Exp::PathLambda {
-                span: _,
-                names,
-                body,
-            } => match names.as_slice() {
-                [] => self.pair(place, span, body),
-                [_, ..] => self.no_pair(place, span, exp),
-            },
-            _ => self.no_pair(place, span, exp),
+        match pair_text(exp) {
+            PairText::Pair {
+                span,
+                ty,
+                equivalence,
+            } => {
+                let ty = self.exp(place, ty)?;
+                let equivalence = tuple(span, self.exps(place, equivalence)?);
+                Ok(Pair { ty, equivalence })
+            }
+            PairText::Term => self.no_pair(place, span, exp),
         }
     }
 

@@ -1,4 +1,4 @@
-use Rattle.std.proofs.Common.{◌∷◌, ◌++◌, get_or, map, is_some, codes, [], refl, sym, ap, ◌∙◌, subst, arith}
+use Rattle.std.proofs.Common.{◌∷◌, ◌++◌, map, codes, [], refl, sym, ap, ◌∙◌, subst, arith}
 use Rattle.codes.specs.declared.code.CodeDef.{out-CodeDef}
 use Rattle.readings.specs.Shaped.{IsLine, IsMotive}
 use Rattle.readings.specs.Spelt.{plain_of, words_of}
@@ -7,21 +7,19 @@ use Rattle.translation.specs.Forms.{all, project}
 use Rattle.translation.specs.Texts.{equations, word}
 use Rattle.scopes.specs.declared.names.Binding.TheVariants as binding
 use Rattle.readings.proofs.Spelling.{let_is, lambda_is, path_lambda_is, pi_is, sigma_is, arrow_is, named_is, applied_is, path_type_is, comp_is, fill_is, transport_is, glue_type_is, glue_term_is, unglue_is, project_is, universe_is, name_is, brackets_is}
-use Rattle.readings.proofs.FormLaws.{answered, text_is, answer_is, line_answer_is, motive_answer_is, name_answered, plain_resolves, no_pair_resolves, let_resolves, under_resolves, path_lambda_resolves, arrow_resolves, application_resolves, path_type_resolves, comp_resolves, fill_resolves, transport_resolves, glue_type_resolves, glue_term_resolves, pair_resolves, unglue_resolves, project_resolves, universe_resolves, tuple_resolves}
+use Rattle.readings.proofs.FormLaws.{answered, text_is, answer_is, name_answered, plain_resolves, no_pair_resolves, let_resolves, under_resolves, path_lambda_resolves, arrow_resolves, application_resolves, path_type_resolves, comp_resolves, fill_resolves, transport_resolves, glue_type_resolves, glue_term_resolves, pair_resolves, unglue_resolves, project_resolves, universe_resolves, tuple_resolves}
 use Rattle.readings.proofs.Steps.{one_more, names_more, argument_element, at_element, exps_none, exps_more, elements_none, elements_more, sides_none, sides_more, line_sides_none, line_sides_more, pair_sides_none, pair_sides_more, binders_none, binders_more, block_none, block_more}
-use Rattle.readings.proofs.Slices.{rest_after, none, only_one, begins, front_one}
-use Rattle.readings.proofs.Others.{inside_brackets, inside_path, same_line, same_motive, same_pair, several_line, several_motive, none_pair, several_pair, names_line, names_motive, names_pair, bare_motive, other_type, no_variable, first_variable, other_line, other_motive, other_pair}
+use Rattle.readings.proofs.Slices.{none}
 use Rattle.readings.proofs.Openings.{applied_line, applied_motive, written_line, written_motive}
 use Rattle.readings.proofs.Applied.{leading_none, leading_more, suc_named, natrec_named}
-use Rattle.resolver.proofs.Answered.{few_named, four_arguments, front_any, made_answers, defined_names, no_span, opened_fits, other_named, pair_answer_is, pair_refused, pair_seen}
-use Rattle.layout_lexer.specs.declared.token.Span.{Span}
+use Rattle.resolver.proofs.Answered.{few_named, four_arguments, made_answers, defined_names, line_spelt, motive_spelt, opened_fits, other_named, pair_answer_is, pair_refused, pair_spelt}
+use Rattle.codes.specs.Shapes.{shape}
 use Rattle.readings.proofs.Definitions.{def_resolves}
 use Rattle.readings.specs.Spelt.{code_terms, motive_of, terms_of}
 use Rattle.scopes.specs.Finding.{find}
-use Rattle.scopes.specs.Steps.{Resolves}
 use Rattle.scopes.specs.declared.names.Found.TheVariants as found
 use Rattle.translation.specs.declared.built_in.BuiltIn.TheVariants as built_in
-use Rattle.readings.proofs.Shaping.{made, under_names, line_at, named_term, universe_term, name_term, brackets_term, tuple_spelt, suc_applied, natrec_applied, argument_spelt, at_spelt, brackets_seen, path_seen, line_seen, motive_seen, line_wrapped, motive_wrapped, pair_wrapped, several_line_spelt, several_motive_spelt, names_motive_spelt, none_pair_spelt, names_pair_spelt, written_line_spelt, bare_motive_spelt, opened_motive_spelt, several_pair_spelt, def_spelt, terms_spelt_none, terms_spelt_more, elements_spelt_none, elements_spelt_more, binders_spelt_none, binders_spelt_more, defs_spelt_none, defs_spelt_more, sides_spelt_none, sides_spelt_more, line_sides_spelt_none, line_sides_spelt_more, pair_sides_spelt_none, pair_sides_spelt_more, term_among, line_among, pair_among, element_among, terms_among, elements_among, sides_among, line_sides_among, pair_sides_among, names_bound, first_bound, equations_among, applied_term, plain_made, few_applied, other_applied, other_motive_spelt, nameless_motive_spelt}
+use Rattle.readings.proofs.Shaping.{made, under_names, line_at, named_term, universe_term, name_term, brackets_term, tuple_spelt, suc_applied, natrec_applied, argument_spelt, at_spelt, def_spelt, terms_spelt_none, terms_spelt_more, elements_spelt_none, elements_spelt_more, binders_spelt_none, binders_spelt_more, defs_spelt_none, defs_spelt_more, sides_spelt_none, sides_spelt_more, line_sides_spelt_none, line_sides_spelt_more, pair_sides_spelt_none, pair_sides_spelt_more, term_among, line_among, pair_among, element_among, terms_among, elements_among, sides_among, line_sides_among, pair_sides_among, names_bound, first_bound, equations_among, applied_term, plain_made, few_applied, other_applied}
 use Rattle.readings.proofs.TextTrees.{let_tree, lambda_tree, pi_tree, sigma_tree, path_lambda_tree, arrow_tree, apply_tree, path_type_tree, comp_tree, fill_tree, transport_tree, glue_type_tree, glue_term_tree, unglue_tree, project_tree}
 use Rattle.resolver.proofs.resolving.Resolver.+resolve.Goals as goal
 
@@ -330,188 +328,50 @@ element-returns-in_ok-formula-in-At-clause-resolves t c =
 
 -- lines
 
-pub line-returns-in-len1-clause-resolves : goal.line-returns-in-len1-clause-resolves
-line-returns-in-len1-clause-resolves t c =
+pub line-returns-in_ok-body-in-Under-clause-resolves : goal.line-returns-in_ok-body-in-Under-clause-resolves
+line-returns-in_ok-body-in-Under-clause-resolves t c =
     let bytes = c.args.self.now.names.bytes.now in
-    let one = only_one c.as_slice.result.now c.only-item.result (omega (arith, c.in-len1.len_at_least, c.in-len1.len_below)) c.only-item.is in
-    line_answer_is _ _ c.line.result (same_line bytes _ _ (inside_brackets bytes c.in-Brackets.span c.in-Brackets.components c.in-Brackets.is c.as_slice.ensures one)) c.line.ensures.resolves
-
-pub line-returns-in_ok-exp-in-empty-clause-resolves : goal.line-returns-in_ok-exp-in-empty-clause-resolves
-line-returns-in_ok-exp-in-empty-clause-resolves t c =
-    let bytes = c.args.self.now.names.bytes.now in
-    applied_line bytes _ _ _ refl (several_line bytes c.in-Brackets.span c.in-Brackets.components c.in-Brackets.is c.as_slice.ensures (λ e. omega (arith, c.in-empty.len_below)))
-    c.in_ok-exp-in-empty.ensures.resolves
-
-pub line-returns-in_ok-exp-in-len2-up-clause-resolves : goal.line-returns-in_ok-exp-in-len2-up-clause-resolves
-line-returns-in_ok-exp-in-len2-up-clause-resolves t c =
-    let bytes = c.args.self.now.names.bytes.now in
-    applied_line bytes _ _ _ refl (several_line bytes c.in-Brackets.span c.in-Brackets.components c.in-Brackets.is c.as_slice.ensures (λ e. omega (arith, c.in-len2-up.len_at_least)))
-    c.in_ok-exp-in-len2-up.ensures.resolves
-
-pub line-returns-in-empty-as_slice-clause-resolves : goal.line-returns-in-empty-as_slice-clause-resolves
-line-returns-in-empty-as_slice-clause-resolves t c =
-    let bytes = c.args.self.now.names.bytes.now in
-    let empty = none c.as_slice-in-PathLambda.result.now (omega (arith, c.in-empty-as_slice.len_below)) in
-    line_answer_is _ _ c.line-in-empty-as_slice.result
-    (same_line bytes _ _ (inside_path bytes c.in-PathLambda.span c.in-PathLambda.names c.in-PathLambda.body c.in-PathLambda.is c.as_slice-in-PathLambda.ensures empty c.deref.ensures))
-    c.line-in-empty-as_slice.ensures.resolves
-
-pub line-returns-in_ok-body-in-len1-up-clause-resolves : goal.line-returns-in_ok-body-in-len1-up-clause-resolves
-line-returns-in_ok-body-in-len1-up-clause-resolves t c =
-    let bytes = c.args.self.now.names.bytes.now in
-    let names = c.as_slice-in-PathLambda.result.now in
-    let x : Span = get_or names 0 no_span in
     opened_fits c.line_under.result c.line_under.ensures (λ l under.
-    text_is (names_line bytes c.in-PathLambda.span x (rest_after 1 names) c.in-PathLambda.body c.in-PathLambda.is (sym c.as_slice-in-PathLambda.ensures ∙ front_any names no_span c.in-len1-up.len_at_least) c.deref-in-len1-up.ensures)
-    (written_line bytes x (rest_after 1 names) _ c.in_ok-body-in-len1-up.body under.code l c.mark-mark.ensures refl refl c.in_ok-open_at-in-len1-up.ensures
-    c.in_ok-body-in-len1-up.ensures.resolves c.cut.ensures under.means under.opened))
+    text_is (c.in-Under.ensures.reads.means bytes)
+    (written_line bytes c.in-Under.name c.in-Under.others.now _ c.in_ok-body-in-Under.body under.code l c.mark-mark.ensures refl refl c.in_ok-open_at-in-Under.ensures
+    c.in_ok-body-in-Under.ensures.resolves c.cut.ensures under.means under.opened))
 
-pub line-returns-in_ok-exp-in_default-clause-resolves : goal.line-returns-in_ok-exp-in_default-clause-resolves
-line-returns-in_ok-exp-in_default-clause-resolves t c =
+pub line-returns-in_ok-exp-in-Applied-clause-resolves : goal.line-returns-in_ok-exp-in-Applied-clause-resolves
+line-returns-in_ok-exp-in-Applied-clause-resolves t c =
     let bytes = c.args.self.now.names.bytes.now in
-    applied_line bytes _ _ _ refl (other_line bytes c.args.exp.now c.in_default.not-Brackets c.in_default.not-PathLambda) c.in_ok-exp-in_default.ensures.resolves
+    applied_line bytes _ _ _ refl (c.in-Applied.ensures.reads.means bytes) c.in_ok-exp-in-Applied.ensures.resolves
 
 -- motives
 
-pub motive-returns-in-len1-clause-resolves : goal.motive-returns-in-len1-clause-resolves
-motive-returns-in-len1-clause-resolves t c =
+pub motive-returns-in_ok-body-in-Under-2-clause-resolves : goal.motive-returns-in_ok-body-in-Under-2-clause-resolves
+motive-returns-in_ok-body-in-Under-2-clause-resolves t c =
     let bytes = c.args.self.now.names.bytes.now in
-    let one = only_one c.as_slice.result.now c.only-item.result (omega (arith, c.in-len1.len_at_least, c.in-len1.len_below)) c.only-item.is in
-    motive_answer_is _ _ c.motive.result (same_motive bytes _ _ (inside_brackets bytes c.in-Brackets.span c.in-Brackets.components c.in-Brackets.is c.as_slice.ensures one)) c.motive.ensures.resolves
+    opened_fits c.motive_under.result c.motive_under.ensures (λ m under.
+    written_motive bytes c.in-Under.name c.in-Under.others.now c.in-Under.teles.now _ _ c.in_ok-body-in-Under.body c.in_ok-body-in-Under-2.body under.code m (motive_of bytes c.args.exp.now)
+    c.mark-mark.ensures refl refl c.in_ok-open_at-in-Under.ensures c.in_ok-binders-in-Under.ensures.resolves
+    c.in_ok-body-in-Under.ensures.resolves c.cut.ensures c.in_ok-body-in-Under-2.ensures.means under.means under.opened c.in-Under.ensures.reads.means)
 
-pub motive-returns-in_ok-exp-in-empty-clause-resolves : goal.motive-returns-in_ok-exp-in-empty-clause-resolves
-motive-returns-in_ok-exp-in-empty-clause-resolves t c =
-    let bytes = c.args.self.now.names.bytes.now in
-    let other = several_motive bytes c.in-Brackets.span c.in-Brackets.components c.in-Brackets.is c.as_slice.ensures (λ e. omega (arith, c.in-empty.len_below)) in
-    applied_motive bytes _ _ _ refl (λ G H a. ap (λ m. m G) other) c.in_ok-exp-in-empty.ensures.resolves
-
-pub motive-returns-in_ok-exp-in-len2-up-clause-resolves : goal.motive-returns-in_ok-exp-in-len2-up-clause-resolves
-motive-returns-in_ok-exp-in-len2-up-clause-resolves t c =
-    let bytes = c.args.self.now.names.bytes.now in
-    let other = several_motive bytes c.in-Brackets.span c.in-Brackets.components c.in-Brackets.is c.as_slice.ensures (λ e. omega (arith, c.in-len2-up.len_at_least)) in
-    applied_motive bytes _ _ _ refl (λ G H a. ap (λ m. m G) other) c.in_ok-exp-in-len2-up.ensures.resolves
-
-pub motive-returns-in-empty-as_slice-clause-resolves : goal.motive-returns-in-empty-as_slice-clause-resolves
-motive-returns-in-empty-as_slice-clause-resolves t c =
-    let bytes = c.args.self.now.names.bytes.now in
-    let empty = none c.as_slice-in-PathLambda.result.now (omega (arith, c.in-empty-as_slice.len_below)) in
-    motive_answer_is _ _ c.motive-in-empty-as_slice.result
-    (same_motive bytes _ _ (inside_path bytes c.in-PathLambda.span c.in-PathLambda.names c.in-PathLambda.body c.in-PathLambda.is c.as_slice-in-PathLambda.ensures empty c.deref.ensures))
-    c.motive-in-empty-as_slice.ensures.resolves
-
-pub motive-returns-in_ok-exp-in-len1-up-clause-resolves : goal.motive-returns-in_ok-exp-in-len1-up-clause-resolves
-motive-returns-in_ok-exp-in-len1-up-clause-resolves t c =
-    let bytes = c.args.self.now.names.bytes.now in
-    let first = begins c.as_slice-in-PathLambda.result.now c.in-len1-up.len_at_least in
-    let other = names_motive bytes c.in-PathLambda.span first.0 _ c.in-PathLambda.body c.in-PathLambda.is (sym c.as_slice-in-PathLambda.ensures ∙ first.1) in
-    applied_motive bytes _ _ _ refl (λ G H a. ap (λ m. m G) other) c.in_ok-exp-in-len1-up.ensures.resolves
-
-pub motive-returns-in_ok-exp-in_default-clause-resolves : goal.motive-returns-in_ok-exp-in_default-clause-resolves
-motive-returns-in_ok-exp-in_default-clause-resolves t c =
-    let bytes = c.args.self.now.names.bytes.now in
-    let other = other_motive bytes c.args.exp.now c.in_default.not-Brackets c.in_default.not-PathLambda c.in_default.not-Lambda in
-    applied_motive bytes _ _ _ refl (λ G H a. ap (λ m. m G) other) c.in_ok-exp-in_default.ensures.resolves
+pub motive-returns-in_ok-exp-in-Applied-clause-resolves : goal.motive-returns-in_ok-exp-in-Applied-clause-resolves
+motive-returns-in_ok-exp-in-Applied-clause-resolves t c =
+    applied_motive c.args.self.now.names.bytes.now _ _ _ refl c.in-Applied.ensures.reads.means c.in_ok-exp-in-Applied.ensures.resolves
 
 -- pairs
+
+pub pair-returns-in_ok-exps-in-Pair-clause-resolves : goal.pair-returns-in_ok-exps-in-Pair-clause-resolves
+pair-returns-in_ok-exps-in-Pair-clause-resolves t c =
+    let bytes = c.args.self.now.names.bytes.now in
+    let cs = c.in_ok-exps-in-Pair.field-0.items in
+    text_is (c.in-Pair.ensures.reads.means bytes c.args.span.start)
+    (pair_resolves bytes c.in-Pair.ty.now c.in-Pair.equivalence.now c.in_ok-ty-in-Pair.ty c.tuple-equivalence.result cs c.tuple-equivalence.ensures.means
+    c.in_ok-ty-in-Pair.ensures.resolves c.in_ok-exps-in-Pair.ensures.resolves)
+
+pub pair-returns-in-Term-clause-resolves : goal.pair-returns-in-Term-clause-resolves
+pair-returns-in-Term-clause-resolves t c =
+    pair_answer_is _ _ c.no_pair.result (c.in-Term.ensures.reads.means c.args.self.now.names.bytes.now c.args.span.start) c.no_pair.ensures.resolves
 
 pub no_pair-returns-clause-resolves : goal.no_pair-returns-clause-resolves
 no_pair-returns-clause-resolves t c =
     no_pair_resolves c.args.self.now.names.bytes.now _ _ _ c.args.span.start refl c.in_ok-ty.ensures.resolves c.refuse.ensures
-
-pub pair-returns-in_default-clause-resolves : goal.pair-returns-in_default-clause-resolves
-pair-returns-in_default-clause-resolves t c =
-    let bytes = c.args.self.now.names.bytes.now in
-    pair_answer_is _ _ c.no_pair-in_default.result (other_pair bytes c.args.span.start c.args.exp.now c.in_default.not-Brackets c.in_default.not-PathLambda) c.no_pair-in_default.ensures.resolves
-
-pub pair-returns-in-empty-clause-resolves : goal.pair-returns-in-empty-clause-resolves
-pair-returns-in-empty-clause-resolves t c =
-    let bytes = c.args.self.now.names.bytes.now in
-    let empty = none c.as_slice.result.now (omega (arith, c.in-empty.len_below)) in
-    pair_answer_is _ _ c.no_pair.result (none_pair bytes c.args.span.start c.in-Brackets.inner c.in-Brackets.components c.in-Brackets.is c.as_slice.ensures empty) c.no_pair.ensures.resolves
-
-pub pair-returns-in-empty-rest-clause-resolves : goal.pair-returns-in-empty-rest-clause-resolves
-pair-returns-in-empty-rest-clause-resolves t c =
-    let bytes = c.args.self.now.names.bytes.now in
-    let xs = c.as_slice.result.now in
-    let front = front_one xs c.first-item.result c.in-len1-up.len_at_least c.first-item.is in
-    let empty = none (rest_after 1 xs) (omega (arith, c.in-empty-rest.len_below)) in
-    pair_answer_is _ _ c.pair.result
-    (same_pair bytes c.args.span.start _ _ (inside_brackets bytes c.in-Brackets.inner c.in-Brackets.components c.in-Brackets.is c.as_slice.ensures (front ∙ ap (λ ys. c.first-item.result ∷ ys) empty)))
-    c.pair.ensures.resolves
-
-pub pair-returns-in_ok-exps-in-len1-up-rest-clause-resolves : goal.pair-returns-in_ok-exps-in-len1-up-rest-clause-resolves
-pair-returns-in_ok-exps-in-len1-up-rest-clause-resolves t c =
-    let bytes = c.args.self.now.names.bytes.now in
-    let xs = c.as_slice.result.now in
-    let x = c.first-item.result in
-    let front = front_one xs x c.in-len1-up.len_at_least c.first-item.is in
-    let second = begins (rest_after 1 xs) c.in-len1-up-rest.len_at_least in
-    let ys = second.0 ∷ rest_after 1 (rest_after 1 xs) in
-    let cs = c.in_ok-exps-in-len1-up-rest.field-0.items in
-    text_is (several_pair bytes c.args.span.start c.in-Brackets.inner c.in-Brackets.components x second.0 (rest_after 1 (rest_after 1 xs)) c.in-Brackets.is c.as_slice.ensures (front ∙ ap (λ zs. x ∷ zs) second.1))
-    (pair_resolves bytes x ys c.in_ok-ty-in-len1-up-rest.ty c.tuple-equivalence.result cs c.tuple-equivalence.ensures.means c.in_ok-ty-in-len1-up-rest.ensures.resolves
-    (subst (λ zs. Resolves c.exp.new.place c.exps.new.place (terms_of bytes zs) (code_terms cs)) second.1 c.in_ok-exps-in-len1-up-rest.ensures.resolves))
-
-pub pair-returns-in-empty-as_slice-clause-resolves : goal.pair-returns-in-empty-as_slice-clause-resolves
-pair-returns-in-empty-as_slice-clause-resolves t c =
-    let bytes = c.args.self.now.names.bytes.now in
-    let empty = none c.as_slice-in-PathLambda.result.now (omega (arith, c.in-empty-as_slice.len_below)) in
-    pair_answer_is _ _ c.pair-in-empty-as_slice.result
-    (same_pair bytes c.args.span.start _ _ (inside_path bytes c.in-PathLambda.span c.in-PathLambda.names c.in-PathLambda.body c.in-PathLambda.is c.as_slice-in-PathLambda.ensures empty c.deref.ensures))
-    c.pair-in-empty-as_slice.ensures.resolves
-
-pub pair-returns-in-len1-up-as_slice-clause-resolves : goal.pair-returns-in-len1-up-as_slice-clause-resolves
-pair-returns-in-len1-up-as_slice-clause-resolves t c =
-    let bytes = c.args.self.now.names.bytes.now in
-    let first = begins c.as_slice-in-PathLambda.result.now c.in-len1-up-as_slice.len_at_least in
-    pair_answer_is _ _ c.no_pair-in-len1-up-as_slice.result
-    (names_pair bytes c.args.span.start c.in-PathLambda.span first.0 _ c.in-PathLambda.body c.in-PathLambda.is (sym c.as_slice-in-PathLambda.ensures ∙ first.1))
-    c.no_pair-in-len1-up-as_slice.ensures.resolves
-
-pub motive-returns-in-empty-as_slice-2-clause-resolves : goal.motive-returns-in-empty-as_slice-2-clause-resolves
-motive-returns-in-empty-as_slice-2-clause-resolves t c =
-    let bytes = c.args.self.now.names.bytes.now in
-    let empty = none c.as_slice-in-Lambda.result.now (omega (arith, c.in-empty-as_slice-2.len_below)) in
-    motive_answer_is _ _ c.motive-in-empty-as_slice-2.result
-    (bare_motive bytes c.in-Lambda.span c.in-Lambda.teles c.in-Lambda.body c.in-Lambda.is c.as_slice-in-Lambda.ensures empty c.deref-in-empty-as_slice-2.ensures)
-    c.motive-in-empty-as_slice-2.ensures.resolves
-
-pub motive-returns-in_ok-exp-in-None-default-clause-resolves : goal.motive-returns-in_ok-exp-in-None-default-clause-resolves
-motive-returns-in_ok-exp-in-None-default-clause-resolves t c =
-    let bytes = c.args.self.now.names.bytes.now in
-    let xs = c.as_slice-in-Lambda.result.now in
-    let x = c.first-item.result in
-    applied_motive bytes _ _ _ refl
-    (λ G H a. other_type bytes c.in-Lambda.span c.in-Lambda.teles c.in-Lambda.body x (rest_after 1 xs) c.in-Lambda.is c.as_slice-in-Lambda.ensures
-    (front_one xs x c.in-len1-up-as_slice.len_at_least c.first-item.is) refl G (c.built_in_nat-nat.ensures.told G H a ∙ ap is_some c.in-None-default.is-0))
-    c.in_ok-exp-in-None-default.ensures.resolves
-
-pub motive-returns-in_ok-exp-in-Some-empty-clause-resolves : goal.motive-returns-in_ok-exp-in-Some-empty-clause-resolves
-motive-returns-in_ok-exp-in-Some-empty-clause-resolves t c =
-    let bytes = c.args.self.now.names.bytes.now in
-    let xs = c.as_slice-in-Lambda.result.now in
-    let x = c.first-item.result in
-    applied_motive bytes _ _ _ refl
-    (λ G H a. no_variable bytes c.in-Lambda.span c.in-Lambda.teles c.in-Lambda.body x (rest_after 1 xs) c.in-Lambda.is c.as_slice-in-Lambda.ensures
-    (front_one xs x c.in-len1-up-as_slice.len_at_least c.first-item.is) refl G
-    (sym c.as_slice-in-len1-up-as_slice.ensures ∙ none c.as_slice-in-len1-up-as_slice.result.now (omega (arith, c.in-Some-empty.len_below)))
-    (c.built_in_nat-nat.ensures.told G H a ∙ ap is_some c.in-Some-empty.is-0))
-    c.in_ok-exp-in-Some-empty.ensures.resolves
-
-pub motive-returns-in_ok-body-in-Some-len1-up-2-clause-resolves : goal.motive-returns-in_ok-body-in-Some-len1-up-2-clause-resolves
-motive-returns-in_ok-body-in-Some-len1-up-2-clause-resolves t c =
-    let bytes = c.args.self.now.names.bytes.now in
-    let xs = c.as_slice-in-Lambda.result.now in
-    let x = c.first-item.result in
-    let names = c.as_slice-in-len1-up-as_slice.result.now in
-    let v : Span = get_or names 0 no_span in
-    opened_fits c.motive_under.result c.motive_under.ensures (λ m under.
-    written_motive bytes v (rest_after 1 names) (rest_after 1 xs) _ _ c.in_ok-body-in-Some-len1-up.body c.in_ok-body-in-Some-len1-up-2.body under.code m (motive_of bytes c.args.exp.now)
-    c.mark-mark.ensures refl refl c.in_ok-open_at-in-Some-len1-up.ensures c.in_ok-binders-in-Some-len1-up.ensures.resolves
-    c.in_ok-body-in-Some-len1-up.ensures.resolves c.cut.ensures c.in_ok-body-in-Some-len1-up-2.ensures.means under.means under.opened
-    (λ G H a. first_variable bytes c.in-Lambda.span c.in-Lambda.teles c.in-Lambda.body x (rest_after 1 xs) c.in-Lambda.is c.as_slice-in-Lambda.ensures
-    (front_one xs x c.in-len1-up-as_slice.len_at_least c.first-item.is) c.deref-in-Some-len1-up.ensures v (rest_after 1 names) G
-    (sym c.as_slice-in-len1-up-as_slice.ensures ∙ front_any names no_span c.in-Some-len1-up.len_at_least) (c.built_in_nat-nat.ensures.told G H a ∙ ap is_some c.in-Some-len1-up.is-0)))
 
 pub named-returns-in-BuiltIn-Nat-clause-resolves : goal.named-returns-in-BuiltIn-Nat-clause-resolves
 named-returns-in-BuiltIn-Nat-clause-resolves t c =
@@ -795,145 +655,45 @@ pub element-returns-in_ok-formula-in-At-clause-spelt : goal.element-returns-in_o
 element-returns-in_ok-formula-in-At-clause-spelt t c =
     at_spelt c.in-At.span c.in-At.is c.in_ok-formula-in-At.ensures.shaped
 
-pub line-returns-in-len1-clause-spelt : goal.line-returns-in-len1-clause-spelt
-line-returns-in-len1-clause-spelt t c =
-    let one = only_one c.as_slice.result.now c.only-item.result (omega (arith, c.in-len1.len_at_least, c.in-len1.len_below)) c.only-item.is in
-    line_seen _ _ _ _ _ c.line.result (brackets_seen c.args.self.now.names.bytes.now c.in-Brackets.span c.in-Brackets.components c.in-Brackets.is c.as_slice.ensures one) c.line.ensures.spelt
-
-pub line-returns-in_ok-exp-in-empty-clause-spelt : goal.line-returns-in_ok-exp-in-empty-clause-spelt
-line-returns-in_ok-exp-in-empty-clause-spelt t c =
-    several_line_spelt c.args.span _ c.in_ok-exp-in-empty.ensures.spelt c.in-Brackets.span c.in-Brackets.components c.in-Brackets.is c.as_slice.ensures (λ e. omega (arith, c.in-empty.len_below))
-
-pub line-returns-in_ok-exp-in-len2-up-clause-spelt : goal.line-returns-in_ok-exp-in-len2-up-clause-spelt
-line-returns-in_ok-exp-in-len2-up-clause-spelt t c =
-    several_line_spelt c.args.span _ c.in_ok-exp-in-len2-up.ensures.spelt c.in-Brackets.span c.in-Brackets.components c.in-Brackets.is c.as_slice.ensures (λ e. omega (arith, c.in-len2-up.len_at_least))
-
-pub line-returns-in-empty-as_slice-clause-spelt : goal.line-returns-in-empty-as_slice-clause-spelt
-line-returns-in-empty-as_slice-clause-spelt t c =
-    let empty = none c.as_slice-in-PathLambda.result.now (omega (arith, c.in-empty-as_slice.len_below)) in
-    line_seen _ _ _ _ _ c.line-in-empty-as_slice.result (path_seen c.args.self.now.names.bytes.now c.in-PathLambda.span c.in-PathLambda.names c.in-PathLambda.body c.in-PathLambda.is c.as_slice-in-PathLambda.ensures empty c.deref.ensures)
-    c.line-in-empty-as_slice.ensures.spelt
-
-pub line-returns-in_ok-exp-in_default-clause-spelt : goal.line-returns-in_ok-exp-in_default-clause-spelt
-line-returns-in_ok-exp-in_default-clause-spelt t c =
-    record { becomes = line_wrapped c.args.span c.in_default.not-Brackets c.in_default.not-PathLambda c.in_ok-exp-in_default.ensures.spelt }
-
-pub motive-returns-in-len1-clause-spelt : goal.motive-returns-in-len1-clause-spelt
-motive-returns-in-len1-clause-spelt t c =
-    let one = only_one c.as_slice.result.now c.only-item.result (omega (arith, c.in-len1.len_at_least, c.in-len1.len_below)) c.only-item.is in
-    motive_seen _ _ _ _ _ c.motive.result (brackets_seen c.args.self.now.names.bytes.now c.in-Brackets.span c.in-Brackets.components c.in-Brackets.is c.as_slice.ensures one) c.motive.ensures.spelt
-
-pub motive-returns-in_ok-exp-in-empty-clause-spelt : goal.motive-returns-in_ok-exp-in-empty-clause-spelt
-motive-returns-in_ok-exp-in-empty-clause-spelt t c =
-    several_motive_spelt c.args.span _ c.in_ok-exp-in-empty.ensures.spelt c.in-Brackets.span c.in-Brackets.components c.in-Brackets.is c.as_slice.ensures (λ e. omega (arith, c.in-empty.len_below))
-
-pub motive-returns-in_ok-exp-in-len2-up-clause-spelt : goal.motive-returns-in_ok-exp-in-len2-up-clause-spelt
-motive-returns-in_ok-exp-in-len2-up-clause-spelt t c =
-    several_motive_spelt c.args.span _ c.in_ok-exp-in-len2-up.ensures.spelt c.in-Brackets.span c.in-Brackets.components c.in-Brackets.is c.as_slice.ensures (λ e. omega (arith, c.in-len2-up.len_at_least))
-
-pub motive-returns-in-empty-as_slice-clause-spelt : goal.motive-returns-in-empty-as_slice-clause-spelt
-motive-returns-in-empty-as_slice-clause-spelt t c =
-    let empty = none c.as_slice-in-PathLambda.result.now (omega (arith, c.in-empty-as_slice.len_below)) in
-    motive_seen _ _ _ _ _ c.motive-in-empty-as_slice.result (path_seen c.args.self.now.names.bytes.now c.in-PathLambda.span c.in-PathLambda.names c.in-PathLambda.body c.in-PathLambda.is c.as_slice-in-PathLambda.ensures empty c.deref.ensures)
-    c.motive-in-empty-as_slice.ensures.spelt
-
-pub motive-returns-in_ok-exp-in_default-clause-spelt : goal.motive-returns-in_ok-exp-in_default-clause-spelt
-motive-returns-in_ok-exp-in_default-clause-spelt t c =
-    record { becomes = motive_wrapped c.args.span c.in_default.not-Brackets c.in_default.not-PathLambda c.in_ok-exp-in_default.ensures.spelt c.in_default.not-Lambda }
-
-pub line-returns-in_ok-body-in-len1-up-clause-spelt : goal.line-returns-in_ok-body-in-len1-up-clause-spelt
-line-returns-in_ok-body-in-len1-up-clause-spelt t c =
+pub line-returns-in_ok-body-in-Under-clause-spelt : goal.line-returns-in_ok-body-in-Under-clause-spelt
+line-returns-in_ok-body-in-Under-clause-spelt t c =
     let bytes = c.args.self.now.names.bytes.now in
-    let names = c.as_slice-in-PathLambda.result.now in
-    let x : Span = get_or names 0 no_span in
+    let x = c.in-Under.name in
+    let bound = first_bound c.args.place.now _ _ (word bytes x) (words_of bytes c.in-Under.others.now) binding.Interval refl c.in_ok-open_at-in-Under.ensures in
     opened_fits c.line_under.result c.line_under.ensures (λ l under.
     subst (IsLine bytes c.args.place.now.names c.args.span c.args.exp.now) (sym under.opened)
-    (written_line_spelt c.args.span c.in-PathLambda.span x _ (rest_after 1 names) c.in-PathLambda.body c.in_ok-body-in-len1-up.body under.code c.in-PathLambda.is
-    (sym c.as_slice-in-PathLambda.ensures ∙ front_any names no_span c.in-len1-up.len_at_least) c.deref-in-len1-up.ensures
-    (first_bound c.args.place.now _ _ (word bytes x) (words_of bytes (rest_after 1 names)) binding.Interval refl c.in_ok-open_at-in-len1-up.ensures)
-    c.in_ok-body-in-len1-up.ensures.spelt under.shaped))
+    (line_spelt c.args.span c.in_ok-body-in-Under.body under.code c.in-Under.ensures.reads bound c.in_ok-body-in-Under.ensures.spelt under.shaped))
 
-pub motive-returns-in_ok-exp-in-len1-up-clause-spelt : goal.motive-returns-in_ok-exp-in-len1-up-clause-spelt
-motive-returns-in_ok-exp-in-len1-up-clause-spelt t c =
-    let first = begins c.as_slice-in-PathLambda.result.now c.in-len1-up.len_at_least in
-    names_motive_spelt c.args.span _ c.in_ok-exp-in-len1-up.ensures.spelt c.in-PathLambda.span first.0 _ _ c.in-PathLambda.body c.in-PathLambda.is (sym c.as_slice-in-PathLambda.ensures ∙ first.1)
+pub line-returns-in_ok-exp-in-Applied-clause-spelt : goal.line-returns-in_ok-exp-in-Applied-clause-spelt
+line-returns-in_ok-exp-in-Applied-clause-spelt t c =
+    record { becomes = c.in-Applied.ensures.reads.becomes c.args.self.now.names.bytes.now c.args.place.now.names c.args.span _ c.in_ok-exp-in-Applied.ensures.spelt.becomes }
 
-pub motive-returns-in-empty-as_slice-2-clause-spelt : goal.motive-returns-in-empty-as_slice-2-clause-spelt
-motive-returns-in-empty-as_slice-2-clause-spelt t c =
-    let empty = none c.as_slice-in-Lambda.result.now (omega (arith, c.in-empty-as_slice-2.len_below)) in
-    bare_motive_spelt _ _ _ c.in-Lambda.span c.in-Lambda.teles c.in-Lambda.body c.motive-in-empty-as_slice-2.result c.in-Lambda.is c.as_slice-in-Lambda.ensures empty c.deref-in-empty-as_slice-2.ensures
-    c.motive-in-empty-as_slice-2.ensures.spelt
-
-pub motive-returns-in_ok-exp-in-None-default-clause-spelt : goal.motive-returns-in_ok-exp-in-None-default-clause-spelt
-motive-returns-in_ok-exp-in-None-default-clause-spelt t c =
-    let xs = c.as_slice-in-Lambda.result.now in
-    let x = c.first-item.result in
-    other_motive_spelt c.args.span _ c.in_ok-exp-in-None-default.ensures.spelt c.in-Lambda.span c.in-Lambda.teles c.in-Lambda.body x (rest_after 1 xs) c.in-Lambda.is c.as_slice-in-Lambda.ensures
-    (front_one xs x c.in-len1-up-as_slice.len_at_least c.first-item.is) (sym c.built_in_nat-nat.ensures.named ∙ c.in-None-default.is-0)
-
-pub motive-returns-in_ok-exp-in-Some-empty-clause-spelt : goal.motive-returns-in_ok-exp-in-Some-empty-clause-spelt
-motive-returns-in_ok-exp-in-Some-empty-clause-spelt t c =
-    let xs = c.as_slice-in-Lambda.result.now in
-    let x = c.first-item.result in
-    nameless_motive_spelt c.args.span _ c.in_ok-exp-in-Some-empty.ensures.spelt c.in-Lambda.span c.in-Lambda.teles c.in-Lambda.body x (rest_after 1 xs) c.in-Lambda.is c.as_slice-in-Lambda.ensures
-    (front_one xs x c.in-len1-up-as_slice.len_at_least c.first-item.is) (sym c.as_slice-in-len1-up-as_slice.ensures ∙ none c.as_slice-in-len1-up-as_slice.result.now (omega (arith, c.in-Some-empty.len_below)))
-
-pub motive-returns-in_ok-body-in-Some-len1-up-2-clause-spelt : goal.motive-returns-in_ok-body-in-Some-len1-up-2-clause-spelt
-motive-returns-in_ok-body-in-Some-len1-up-2-clause-spelt t c =
+pub motive-returns-in_ok-body-in-Under-2-clause-spelt : goal.motive-returns-in_ok-body-in-Under-2-clause-spelt
+motive-returns-in_ok-body-in-Under-2-clause-spelt t c =
     let bytes = c.args.self.now.names.bytes.now in
-    let xs = c.as_slice-in-Lambda.result.now in
-    let x = c.first-item.result in
-    let names = c.as_slice-in-len1-up-as_slice.result.now in
-    let v : Span = get_or names 0 no_span in
+    let v = c.in-Under.name in
+    let bound = first_bound c.args.place.now _ _ (word bytes v) (words_of bytes c.in-Under.others.now) binding.Variable refl c.in_ok-open_at-in-Under.ensures in
     opened_fits c.motive_under.result c.motive_under.ensures (λ m under.
     subst (IsMotive bytes c.args.place.now.names c.args.span c.args.exp.now) (sym under.opened)
-    (opened_motive_spelt c.args.span c.in-Lambda.span v c.in-Some-len1-up.nat (rest_after 1 names) x (rest_after 1 xs) c.in-Lambda.teles c.in-Lambda.body
-    c.in_ok-body-in-Some-len1-up.body c.in_ok-body-in-Some-len1-up-2.body under.code c.in-Lambda.is c.as_slice-in-Lambda.ensures
-    (front_one xs x c.in-len1-up-as_slice.len_at_least c.first-item.is) (sym c.as_slice-in-len1-up-as_slice.ensures ∙ front_any names no_span c.in-Some-len1-up.len_at_least)
-    c.deref-in-Some-len1-up.ensures (sym c.built_in_nat-nat.ensures.named ∙ c.in-Some-len1-up.is-0)
-    (first_bound c.args.place.now _ _ (word bytes v) (words_of bytes (rest_after 1 names)) binding.Variable refl c.in_ok-open_at-in-Some-len1-up.ensures)
-    c.in_ok-binders-in-Some-len1-up.ensures.spelt c.in_ok-body-in-Some-len1-up.ensures.spelt c.in_ok-body-in-Some-len1-up-2.ensures.shaped under.shaped))
+    (motive_spelt c.args.place.now c.args.span c.in_ok-body-in-Under.body c.in_ok-body-in-Under-2.body under.code c.in-Under.ensures.reads bound
+    c.in_ok-binders-in-Under.ensures.spelt c.in_ok-body-in-Under.ensures.spelt c.in_ok-body-in-Under-2.ensures.shaped under.shaped))
+
+pub motive-returns-in_ok-exp-in-Applied-clause-spelt : goal.motive-returns-in_ok-exp-in-Applied-clause-spelt
+motive-returns-in_ok-exp-in-Applied-clause-spelt t c =
+    record { becomes = c.in-Applied.ensures.reads.becomes c.args.span _ c.in_ok-exp-in-Applied.ensures.spelt.becomes }
+
+pub pair-returns-in_ok-exps-in-Pair-clause-spelt : goal.pair-returns-in_ok-exps-in-Pair-clause-spelt
+pair-returns-in_ok-exps-in-Pair-clause-spelt t c =
+    pair_spelt c.args.span c.in_ok-ty-in-Pair.ty c.tuple-equivalence.result c.in-Pair.ensures.reads c.in_ok-ty-in-Pair.ensures.spelt
+    (terms_among c.in_ok-ty-in-Pair.ensures.resolves.keeps.names c.in_ok-exps-in-Pair.ensures.spelt) c.tuple-equivalence.ensures.shaped
+
+pub pair-returns-in-Term-clause-spelt : goal.pair-returns-in-Term-clause-spelt
+pair-returns-in-Term-clause-spelt t c =
+    pair_refused _ _ _ _ c.no_pair.result (λ C h. c.in-Term.ensures.reads.becomes c.args.self.now.names.bytes.now c.args.place.now.names c.args.span (shape C) h.becomes) c.no_pair.ensures.spelt
 
 pub no_pair-returns-clause-spelt : goal.no_pair-returns-clause-spelt
 no_pair-returns-clause-spelt t c =
     (c.in_ok-ty.ensures.spelt, refl)
-
-pub pair-returns-in_default-clause-spelt : goal.pair-returns-in_default-clause-spelt
-pair-returns-in_default-clause-spelt t c =
-    pair_refused _ _ _ _ c.no_pair-in_default.result (λ C h. pair_wrapped c.args.span c.in_default.not-Brackets c.in_default.not-PathLambda h) c.no_pair-in_default.ensures.spelt
-
-pub pair-returns-in-empty-clause-spelt : goal.pair-returns-in-empty-clause-spelt
-pair-returns-in-empty-clause-spelt t c =
-    let empty = none c.as_slice.result.now (omega (arith, c.in-empty.len_below)) in
-    pair_refused _ _ _ _ c.no_pair.result (λ C h. none_pair_spelt c.args.span C h c.in-Brackets.inner c.in-Brackets.components c.in-Brackets.is c.as_slice.ensures empty) c.no_pair.ensures.spelt
-
-pub pair-returns-in-empty-rest-clause-spelt : goal.pair-returns-in-empty-rest-clause-spelt
-pair-returns-in-empty-rest-clause-spelt t c =
-    let xs = c.as_slice.result.now in
-    let front = front_one xs c.first-item.result c.in-len1-up.len_at_least c.first-item.is in
-    let empty = none (rest_after 1 xs) (omega (arith, c.in-empty-rest.len_below)) in
-    pair_seen _ _ _ _ _ c.pair.result (brackets_seen c.args.self.now.names.bytes.now c.in-Brackets.inner c.in-Brackets.components c.in-Brackets.is c.as_slice.ensures (front ∙ ap (λ ys. c.first-item.result ∷ ys) empty)) c.pair.ensures.spelt
-
-pub pair-returns-in_ok-exps-in-len1-up-rest-clause-spelt : goal.pair-returns-in_ok-exps-in-len1-up-rest-clause-spelt
-pair-returns-in_ok-exps-in-len1-up-rest-clause-spelt t c =
-    let xs = c.as_slice.result.now in
-    let x = c.first-item.result in
-    let front = front_one xs x c.in-len1-up.len_at_least c.first-item.is in
-    let second = begins (rest_after 1 xs) c.in-len1-up-rest.len_at_least in
-    several_pair_spelt c.args.span c.in-Brackets.inner c.in-Brackets.components c.in_ok-ty-in-len1-up-rest.ty c.tuple-equivalence.result c.in-Brackets.is c.as_slice.ensures front second.1
-    c.in_ok-ty-in-len1-up-rest.ensures.spelt (terms_among c.in_ok-ty-in-len1-up-rest.ensures.resolves.keeps.names c.in_ok-exps-in-len1-up-rest.ensures.spelt) c.tuple-equivalence.ensures.shaped
-
-pub pair-returns-in-empty-as_slice-clause-spelt : goal.pair-returns-in-empty-as_slice-clause-spelt
-pair-returns-in-empty-as_slice-clause-spelt t c =
-    let empty = none c.as_slice-in-PathLambda.result.now (omega (arith, c.in-empty-as_slice.len_below)) in
-    pair_seen _ _ _ _ _ c.pair-in-empty-as_slice.result (path_seen c.args.self.now.names.bytes.now c.in-PathLambda.span c.in-PathLambda.names c.in-PathLambda.body c.in-PathLambda.is c.as_slice-in-PathLambda.ensures empty c.deref.ensures)
-    c.pair-in-empty-as_slice.ensures.spelt
-
-pub pair-returns-in-len1-up-as_slice-clause-spelt : goal.pair-returns-in-len1-up-as_slice-clause-spelt
-pair-returns-in-len1-up-as_slice-clause-spelt t c =
-    let first = begins c.as_slice-in-PathLambda.result.now c.in-len1-up-as_slice.len_at_least in
-    pair_refused _ _ _ _ c.no_pair-in-len1-up-as_slice.result (λ C h. names_pair_spelt c.args.span C h c.in-PathLambda.span first.0 _ _ c.in-PathLambda.body c.in-PathLambda.is (sym c.as_slice-in-PathLambda.ensures ∙ first.1))
-    c.no_pair-in-len1-up-as_slice.ensures.spelt
 
 pub def-returns-clause-spelt : goal.def-returns-clause-spelt
 def-returns-clause-spelt t c =

@@ -12,7 +12,7 @@ use std::alloc::AllocError;
 use syntax::Tele;
 
 /// The binder of a tele whose type has this code. Its names stay bound.
-pub(crate) fn binder<'a>(
+pub fn binder<'a>(
     names: &References<'a>,
     place: &mut Place<'a>,
     tele: &Tele,

@@ -1,6 +1,6 @@
 use Rattle.std.proofs.Common.{◌∷◌, length, sym, ap, ◌∙◌, arith}
 use Rattle.readings.proofs.Slices.{front_one, rest_after}
-use Rattle.resolver.proofs.arguments.first_argument.Goals as goal
+use Rattle.readings.proofs.arguments.first_argument.Goals as goal
 
 pub returns-in-empty : goal.returns-in-empty
 returns-in-empty c e rest h = let l = ap length h in omega (arith, c.in-empty.len_below, l)

@@ -9,17 +9,17 @@ ghost use Rattle.codes.specs.Shapes.{lambda as a_lambda, path_lambda as a_path_l
 ghost use Rattle.scopes.specs.Steps.{all_bound_to, bound_to};
 ghost use Rattle.readings.specs.Shaped.{numbers};
 ghost use Rattle.readings.specs.Spelt.{words_of};
-ghost use Rattle.resolver.specs.Opening.{IsUnder};
+ghost use Rattle.readings.specs.Opening.{IsUnder};
 
+use crate::forms::over_numbers;
 use codes::{Code, Opened};
 use layout_lexer::Span;
-use readings::over_numbers;
 use references::References;
 use scopes::{Binding, Place};
 use std::alloc::{AllocError, Global};
 
 /// Binds the name at which a text stands opened, and then the others that are written with it.
-pub(crate) fn open_at<'a>(
+pub fn open_at<'a>(
     names: &References<'a>,
     place: &mut Place<'a>,
     first: Span,
@@ -35,7 +35,7 @@ pub(crate) fn open_at<'a>(
 }
 
 /// The line that is `body` under its name, and under so many others.
-pub(crate) fn line_under(
+pub fn line_under(
     alloc: Global,
     span: Span,
     others: usize,
@@ -49,7 +49,7 @@ pub(crate) fn line_under(
 }
 
 /// The motive that is `body` under its variable, and under so many others over the same `nat`.
-pub(crate) fn motive_under(
+pub fn motive_under(
     alloc: Global,
     span: Span,
     others: usize,

@@ -1,5 +1,5 @@
 use Rattle.std.proofs.Common.{refl}
-use Rattle.resolver.proofs.opening.line_under.Goals as goal
+use Rattle.readings.proofs.opening.line_under.Goals as goal
 
 pub returns : goal.returns
 returns c =

@@ -1,11 +1,11 @@
 //! The argument that stands first among what a head is applied to.
 
-ghost use Rattle.resolver.specs.Arguments.{Leads};
+ghost use Rattle.readings.specs.Arguments.{Leads};
 
 use syntax::{Element, Exp};
 
 /// The first element, if it is an argument, and what stands behind it.
-pub(crate) fn first_argument(elements: &[Element]) -> Option<(&Exp, &[Element])>
+pub fn first_argument(elements: &[Element]) -> Option<(&Exp, &[Element])>
     ensures { Leads elements.now result }
 {
     match elements {
