@@ -1,5 +1,5 @@
 -- A definition, from its parts.
-use Rattle.std.proofs.Common.{◌≡◌, ◌+◌, ◌-◌, ℕ, suc, List, map, length, refl, sym, ap, ◌∙◌, arith, subst}
+use Rattle.std.proofs.Common.{◌≡◌, ◌+◌, ℕ, suc, List, map, length, refl, sym, ap, ◌∙◌, arith, subst}
 use Rattle.syntax.specs.declared.exp.Def.{Def, out-Def}
 use Rattle.syntax.specs.declared.exp.Exp.{Exp}
 use Rattle.syntax.specs.declared.exp.Tele.{Tele}

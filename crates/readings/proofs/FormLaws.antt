@@ -30,7 +30,7 @@ use Rattle.scopes.proofs.Moving.{moving_then, resolves_done, resolves_one, resol
 use Rattle.scopes.proofs.Binders.{binds_none, binds_more, resolves_under, resolves_under_names}
 use Rattle.scopes.proofs.Blocks.{moves_refused, resolves_after}
 use Rattle.scopes.proofs.Lists.{resolves_tuple, resolves_application}
-use Rattle.readings.specs.Spelt.{Applies, code_term, code_terms, code_line, code_motive, code_pair, code_binders, code_block, code_elements, code_term_sides, code_line_sides, code_pair_sides, term_of, terms_of, line_of, pair_of, no_pair_of, place_of, words_of, binders_of, elements_of, side_of, term_sides_of, line_sides_of, pair_sides_of, block_of}
+use Rattle.readings.specs.Spelt.{Applies, code_term, code_terms, code_line, code_pair, code_binders, code_block, code_elements, code_term_sides, code_line_sides, code_pair_sides, term_of, terms_of, line_of, pair_of, no_pair_of, place_of, words_of, binders_of, elements_of, side_of, term_sides_of, line_sides_of, pair_sides_of, block_of}
 
 -- what a call answers, where what it makes means what was resolved
 pub answered : {E : Type 0} {s t : State} {f : Means Word Tree} {g : Means ℕ Tree} (r : Result Code E)
@@ -47,16 +47,6 @@ pub answer_is : {E : Type 0} (s t : State) {f h : Means Word Tree} (r : Result C
     → f ≡ h → IfOk r (λ c. Resolves s t f (code_term c)) → IfOk r (λ c. Resolves s t h (code_term c))
 answer_is s t (Ok c) e h = subst (λ m. Resolves s t m (code_term c)) e h
 answer_is s t (Err x) e h = tt
-
-pub line_answer_is : {E : Type 0} (s t : State) {f h : Means Word Tree} (r : Result Opened E)
-    → f ≡ h → IfOk r (λ c. Resolves s t f (code_line c)) → IfOk r (λ c. Resolves s t h (code_line c))
-line_answer_is s t (Ok c) e h = subst (λ m. Resolves s t m (code_line c)) e h
-line_answer_is s t (Err x) e h = tt
-
-pub motive_answer_is : {E : Type 0} (s t : State) {f h : Means Word Tree} (r : Result Opened E)
-    → f ≡ h → IfOk r (λ c. Resolves s t f (code_motive c)) → IfOk r (λ c. Resolves s t h (code_motive c))
-motive_answer_is s t (Ok c) e h = subst (λ m. Resolves s t m (code_motive c)) e h
-motive_answer_is s t (Err x) e h = tt
 
 -- the same, where each answer that fits the one fits the other
 pub answer_fits : {E : Type 0} (s t : State) (f h : Means Word Tree) (r : Result Code E)

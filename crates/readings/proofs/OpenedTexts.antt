@@ -1,5 +1,5 @@
 -- How texts stand where a line, a motive or a pair is wanted.
-use Rattle.std.proofs.Common.{◌≡◌, ℕ, Box, Global, List, [], ◌∷◌, length, map, is_some, Some, None, false, true, refl, sym, ap, ◌∙◌, subst}
+use Rattle.std.proofs.Common.{◌≡◌, ℕ, Box, Global, List, [], ◌∷◌, length, Some, None, false, true, refl, sym, ap, ◌∙◌, subst}
 use Rattle.layout_lexer.specs.declared.token.Span.{Span}
 use Rattle.syntax.specs.declared.exp.Exp.{Exp, Lambda as Lambda_, PathLambda as PathLambda_, Brackets as Brackets_}
 use Rattle.syntax.specs.declared.exp.Exps.{Exps}
@@ -22,7 +22,7 @@ use Rattle.scopes.specs.Steps.{State, Agree}
 use Rattle.readings.specs.declared.opened.MotiveText.{MotiveText}
 use Rattle.readings.specs.declared.opened.MotiveText.TheVariants as motive
 use Rattle.readings.specs.Opened.{bare, LineUnder, LineApplied, MotiveUnder, MotiveApplied, ReadsMotive, PairOf, NoPair}
-use Rattle.readings.specs.Shaped.{Stand, Term, Line, Motive, Pair, Becomes, Become, nat_in, numbers, tuple, under_tele}
+use Rattle.readings.specs.Shaped.{Term, Line, Motive, Pair, Becomes, Become, nat_in, numbers, tuple, under_tele}
 use Rattle.readings.specs.Spelt.{read, term_of, line_of, motive_of, pair_of, no_pair_of, is_nat_of}
 use Rattle.readings.proofs.TextTrees.{brackets_tree, path_lambda_tree, lambda_tree}
 use Rattle.readings.proofs.Shaping.{a_name, a_lambda, a_path, in_brackets, another, form_of, IsAnother, other_opened, nothing_opened, where_some}

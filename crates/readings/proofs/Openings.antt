@@ -1,5 +1,5 @@
 -- Texts that stand opened.
-use Rattle.std.proofs.Common.{◌≡◌, ◌-◌, ℕ, List, [], ◌∷◌, map, length, replicate, refl, sym, ap, ◌∙◌, subst}
+use Rattle.std.proofs.Common.{◌≡◌, ℕ, List, [], ◌∷◌, map, length, replicate, refl, sym, ap, ◌∙◌, subst}
 use Rattle.std.proofs.lemmas.List.{length-map}
 use Rattle.layout_lexer.specs.declared.token.Span.{Span}
 use Rattle.syntax.specs.declared.exp.Exp.{Exp}

@@ -1,5 +1,5 @@
 -- What the parts of a text become, from what was made of them.
-use Rattle.std.proofs.Common.{◌≡◌, ◌-◌, ◌<◌, ℕ, suc, Box, Global, Result, Ok, Err, IfOk, List, [], ◌∷◌, ◌++◌, ◌&&◌, Bool, true, false, Option, Some, None, zero, if◌then◌else◌, length, refl, sym, ap, ◌∙◌, subst, arith}
+use Rattle.std.proofs.Common.{◌≡◌, ◌<◌, ℕ, suc, Box, Global, Result, Ok, Err, IfOk, List, [], ◌∷◌, ◌++◌, ◌&&◌, Bool, true, false, Option, Some, None, zero, if◌then◌else◌, length, refl, sym, ap, ◌∙◌, subst, arith}
 use Rattle.layout_lexer.specs.declared.token.Span.{Span}
 use Rattle.syntax.specs.declared.exp.Exp.{Exp, Exp-F, out-Exp, roll-Exp, roll-out-Exp, Lambda as Lambda_, PathLambda as PathLambda_, Brackets as Brackets_, Apply as Apply_, Universe as Universe_, Name as Name_}
 use Rattle.syntax.specs.declared.exp.Exp.TheVariants.{rolls-Let, rolls-Lambda, rolls-PathLambda, rolls-Pi, rolls-Sigma, rolls-Arrow, rolls-Apply, rolls-PathP, rolls-Comp, rolls-Fill, rolls-Transport, rolls-GlueType, rolls-GlueTerm, rolls-Unglue, rolls-Project, rolls-Universe, rolls-Name, rolls-Brackets}
@@ -21,7 +21,7 @@ use Rattle.translation.specs.Names.{Word}
 use Rattle.translation.specs.Texts.{span_of, word}
 use Rattle.codes.specs.declared.code.Code.{Code}
 use Rattle.codes.specs.declared.code.CodeDef.{CodeDef, CodeDef', out-CodeDef}
-use Rattle.codes.specs.declared.code.Opened.{Opened, Under, Applied as Applied_}
+use Rattle.codes.specs.declared.code.Opened.{Opened}
 use Rattle.codes.specs.declared.formula.Formula.{Formula as CodeFormula}
 use Rattle.codes.specs.declared.formula.Equation.{Equation as CodeEquation}
 use Rattle.codes.specs.declared.code.Binder.{Binder}
@@ -40,9 +40,9 @@ use Rattle.scopes.specs.Finding.{Named, find}
 use Rattle.scopes.specs.Steps.{State, bound_to, all_bound_to}
 use Rattle.references.specs.Named.{as_term, found_at, formula_in, equations_in}
 use Rattle.readings.proofs.Applied.{leading}
-use Rattle.readings.specs.Shaped.{Stand, Term, Line, Motive, Side, Pair, Scoping, Becomes, Become, BecomeSides, Applied, TakesNone, TakesOne, TakesFour, where_found, where_true, nat_in, nat_alone, is_nat, words, bound_in, after_all, binding_nothing, under_tele, after_definition, is_argument, are_arguments, tuple, after, numbers}
+use Rattle.readings.specs.Shaped.{Stand, Term, Line, Motive, Side, Pair, Scoping, Becomes, Become, BecomeSides, Applied, TakesNone, TakesOne, TakesFour, where_found, where_true, nat_in, is_nat, words, bound_in, after_all, binding_nothing, under_tele, after_definition, is_argument, are_arguments, tuple, after}
 use Rattle.readings.specs.Shaped.{IsTerm, AreTerms, IsTuple, IsApplied, IsPlain, IsLine, IsMotive, IsPair, IsElement, AreElements, AreSides, AreLineSides, ArePairSides, AreBinders, IsDef, AreDefs}
-use Rattle.readings.proofs.TextTrees.{lambda_tree, path_lambda_tree, apply_tree, universe_tree, name_tree, brackets_tree}
+use Rattle.readings.proofs.TextTrees.{apply_tree, universe_tree, name_tree, brackets_tree}
 
 -- whatever code of that shape is made
 pub made : {E : Type 0} (bytes : List ℕ) (names : List Named) (e : Exp) {T : text.Tree} (k : Shape) (r : Result Code E)
@@ -270,41 +270,6 @@ module _ {bytes : List ℕ} where
             (b, ap (λ es. code.On es b) q, subst (λ s. Becomes bytes T names (Pair s) b) l k.becomes);
       })
 
--- What is no written line, motive or pair stands wrapped.
-
-abbrev pub wrapped : Stand → Shape → Shape
-wrapped Term c = c
-wrapped (Line s) c = code.Applied s c
-wrapped (Motive s) c = code.Applied s c
-wrapped (Side s) c = code.Side s c
-wrapped (Pair s) c = code.PairSide s c (code.Universe s)
-
--- no brackets, and no lambda of names
-abbrev pub IsOther : text.Tree → Type 0
-IsOther (text.Brackets s es) = ⊥
-IsOther (text.PathLambda s ns e) = ⊥
-IsOther _ = Unit {0}
-
--- a lambda stands opened as a motive
-abbrev pub MayOpen : text.Tree → Stand → Type 0
-MayOpen (text.Lambda s xs e) (Motive p) = Unit {0}
-MayOpen T at = ⊥
-
-wrap : (bytes : List ℕ) (names : List Named) (T : text.Tree) (at : Stand) (c : Shape) → IsOther T → (MayOpen T at → ⊥) → Becomes bytes T names Term c → Becomes bytes T names at (wrapped at c)
-wrap bytes names (text.Brackets s es) at c o n h = absurd o
-wrap bytes names (text.PathLambda s ns e) at c o n h = absurd o
-wrap bytes names (text.Lambda s xs e) (Motive p) c o n h = absurd (n tt)
-wrap bytes names (text.Apply p (text.Name x) es) Term c o n h = h
-wrap bytes names (text.Apply p (text.Name x) es) (Line s) c o n h = (c, refl, h)
-wrap bytes names (text.Apply p (text.Name x) es) (Motive s) c o n h = (c, refl, h)
-wrap bytes names (text.Apply p (text.Name x) es) (Side s) c o n h = (c, refl, h)
-wrap bytes names (text.Apply p (text.Name x) es) (Pair s) c o n h = (c, refl, h)
-wrap bytes names T Term c o n h = h
-wrap bytes names T (Line s) c o n h = (c, refl, h)
-wrap bytes names T (Motive s) c o n h = (c, refl, h)
-wrap bytes names T (Side s) c o n h = (c, refl, h)
-wrap bytes names T (Pair s) c o n h = (c, refl, h)
-
 -- the forms that stand out: names, lambdas, and what is in brackets
 abbrev pub IsAnother : text.Tree → Type 0
 IsAnother (text.Name n) = ⊥
@@ -343,41 +308,6 @@ form_of e = subst Form (roll-out-Exp e) (elim (out-Exp e) as (λ x. Form (roll-E
   | Exp-F.Brackets a b ↦ subst Form (sym (rolls-Brackets a b)) (in_brackets a b refl)
 ])
 
-is_other : (T : text.Tree) → IsAnother T → IsOther T
-is_other (text.Brackets s es) h = h
-is_other (text.PathLambda s ns e) h = h
-is_other T h = tt
-
-other : (e : Exp) → ((s : Span) (es : Exps) → e ≡ Brackets_ s es → ⊥) → ((s : Span) (ns : List Span) (p : Box Exp Global) → e ≡ PathLambda_ s ns p → ⊥) → IsOther (tree_of e)
-other e inside path = elim (form_of e) [
-  | a_name n h ↦ rw h tt
-  | a_lambda s xs p h ↦ rw h tt
-  | a_path s ns p h ↦ absurd (path s ns p h)
-  | in_brackets s es h ↦ absurd (inside s es h)
-  | another h ↦ is_other (tree_of e) h
-]
-
-opens_not : (T : text.Tree) (p : Span) → IsAnother T → MayOpen T (Motive p) → ⊥
-opens_not (text.Lambda s xs e) p h m = h
-opens_not T p h m = m
-
-no_lambda : (e : Exp) → ((s : Span) (xs : Teles) (p : Box Exp Global) → e ≡ Lambda_ s xs p → ⊥) → (p : Span) → MayOpen (tree_of e) (Motive p) → ⊥
-no_lambda e lambda at m = elim (form_of e) [
-  | a_name n h ↦ subst (λ x. MayOpen (tree_of x) (Motive at)) h m
-  | a_lambda s xs p h ↦ lambda s xs p h
-  | a_path s ns p h ↦ subst (λ x. MayOpen (tree_of x) (Motive at)) h m
-  | in_brackets s es h ↦ subst (λ T. MayOpen T (Motive at)) (ap tree_of h ∙ tree_of_brackets s es) m
-  | another h ↦ opens_not (tree_of e) at h m
-]
-
-never_line : (T : text.Tree) (p : Span) → MayOpen T (Line p) → ⊥
-never_line (text.Lambda s xs e) p m = m
-never_line T p m = m
-
-never_pair : (T : text.Tree) (p : Span) → MayOpen T (Pair p) → ⊥
-never_pair (text.Lambda s xs e) p m = m
-never_pair T p m = m
-
 -- a text that is no name
 pub no_name : (e : Exp) → ((n : Span) → e ≡ Name_ n → ⊥) → (n : Span) → tree_of e ≡ text.Name n → ⊥
 no_name e name n k = elim (form_of e) [
@@ -393,71 +323,16 @@ pub applied_term : {bytes : List ℕ} {names : List Named} (s : Span) {f : Exp} 
 applied_term {bytes = bytes} {names = names} s {f = f} {h = h} {es = es} {cs = cs} other head others =
     applied_other bytes names s (tree_of f) (tree_list element_of es) (shape h) (listed element_shape cs) (no_name f other) head.becomes others.become
 
-module _ {bytes : List ℕ} {names : List Named} {e : Exp} {c : Code} (s : Span) (no_brackets : (s : Span) (es : Exps) → e ≡ Brackets_ s es → ⊥)
-    (no_path : (s : Span) (ns : List Span) (p : Box Exp Global) → e ≡ PathLambda_ s ns p → ⊥) (h : IsTerm bytes names e c) where
-  pub line_wrapped : Becomes bytes (tree_of e) names (Line s) (code.Applied s (shape c))
-  line_wrapped = wrap bytes names (tree_of e) (Line s) (shape c) (other e no_brackets no_path) (never_line (tree_of e) s) h.becomes
-
-  pub motive_wrapped : ((s : Span) (xs : Teles) (p : Box Exp Global) → e ≡ Lambda_ s xs p → ⊥) → Becomes bytes (tree_of e) names (Motive s) (code.Applied s (shape c))
-  motive_wrapped lambda = wrap bytes names (tree_of e) (Motive s) (shape c) (other e no_brackets no_path) (no_lambda e lambda s) h.becomes
-
-  pub pair_wrapped : Becomes bytes (tree_of e) names (Pair s) (code.PairSide s (shape c) (code.Universe s))
-  pair_wrapped = wrap bytes names (tree_of e) (Pair s) (shape c) (other e no_brackets no_path) (never_pair (tree_of e) s) h.becomes
-
--- brackets round one expression, and names of the interval where there are none, are seen through
+-- what becomes the same codes wherever it stands
 
 abbrev pub Same : List ℕ → Exp → Exp → Type 0
 Same bytes x e = (names : List Named) (at : Stand) (c : Shape) → Becomes bytes (tree_of x) names at c → Becomes bytes (tree_of e) names at c
-
-module _ (bytes : List ℕ) where
-  pub brackets_seen : (p : Span) (es : Exps) {e x : Exp} {xs : List Exp} → e ≡ Brackets_ p es → xs ≡ es.items.items → xs ≡ x ∷ [] → Same bytes x e
-  brackets_seen p es i j k names at c h = subst (λ T. Becomes bytes T names at c) (sym (brackets_tree p es i j ∙ ap (λ ys. text.Brackets p (tree_list tree_of ys)) k)) h
-
-  pub path_seen : (p : Span) (ns : List Span) (b : Box Exp Global) {e x : Exp} {ms : List Span} → e ≡ PathLambda_ p ns b → ms ≡ ns → ms ≡ [] → x ≡ b.value → Same bytes x e
-  path_seen p ns b {x = x} i j k l names at c h = subst (λ T. Becomes bytes T names at c) (sym (path_lambda_tree p ns b i j l ∙ ap (λ ys. text.PathLambda p ys (tree_of x)) k)) h
-
-module _ (bytes : List ℕ) (names : List Named) where
-  pub line_seen : {E : Type 0} (s : Span) (x e : Exp) (r : Result Opened E) → Same bytes x e → IfOk r (λ l. IsLine bytes names s x l) → IfOk r (λ l. IsLine bytes names s e l)
-  line_seen s x e (Ok l) same h = record { becomes = same names (Line s) (opened_shape l) h.becomes }
-  line_seen s x e (Err y) same h = tt
-
-  pub motive_seen : {E : Type 0} (s : Span) (x e : Exp) (r : Result Opened E) → Same bytes x e → IfOk r (λ l. IsMotive bytes names s x l) → IfOk r (λ l. IsMotive bytes names s e l)
-  motive_seen s x e (Ok l) same h = record { becomes = same names (Motive s) (opened_shape l) h.becomes }
-  motive_seen s x e (Err y) same h = tt
 
 -- where the text is the built-in `nat`
 
 module _ (bytes : List ℕ) (names : List Named) where
   pub nat_in_name : (n : Span) {e : Exp} {f : Found} → e ≡ Name_ n → f ≡ find names (word bytes n) → nat_in bytes names (tree_of e) ≡ (if is_nat f then Some n else None)
   nat_in_name n i k = ap (nat_in bytes names) (name_tree n i) ∙ ap (λ g. if is_nat g then Some n else None) (sym k)
-
-  pub nat_in_brackets : (p : Span) (es : Exps) {e x : Exp} {xs : List Exp} → e ≡ Brackets_ p es → xs ≡ es.items.items → xs ≡ x ∷ [] → nat_in bytes names (tree_of e) ≡ nat_in bytes names (tree_of x)
-  nat_in_brackets p es i j k = ap (nat_in bytes names) (brackets_tree p es i j ∙ ap (λ ys. text.Brackets p (tree_list tree_of ys)) k)
-
-  alone : (xs : List Exp) → (length xs ≡ 1 → ⊥) → nat_alone bytes names (tree_list tree_of xs) ≡ None
-  alone [] some = refl
-  alone (x ∷ []) some = absurd (some refl)
-  alone (x ∷ y ∷ xs) some = refl
-
-  pub nat_in_several : (p : Span) (es : Exps) {e : Exp} {xs : List Exp} → e ≡ Brackets_ p es → xs ≡ es.items.items → (length xs ≡ 1 → ⊥) → nat_in bytes names (tree_of e) ≡ None
-  nat_in_several p es {xs = xs} i j some = ap (nat_in bytes names) (brackets_tree p es i j) ∙ alone xs some
-
-  pub nat_in_path : (p : Span) (ns : List Span) (b : Box Exp Global) {e x : Exp} {ms : List Span} → e ≡ PathLambda_ p ns b → ms ≡ ns → ms ≡ [] → x ≡ b.value
-      → nat_in bytes names (tree_of e) ≡ nat_in bytes names (tree_of x)
-  nat_in_path p ns b {x = x} i j k l = ap (nat_in bytes names) (path_lambda_tree p ns b i j l ∙ ap (λ ys. text.PathLambda p ys (tree_of x)) k)
-
-  pub nat_in_names : (p i : Span) (ns is : List Span) (b : Box Exp Global) {e : Exp} → e ≡ PathLambda_ p ns b → ns ≡ i ∷ is → nat_in bytes names (tree_of e) ≡ None
-  nat_in_names p i ns is b j k = ap (nat_in bytes names) (path_lambda_tree p ns b j (sym k) refl)
-
-  nat_other : (T : text.Tree) → IsOther T → ((n : Span) → T ≡ text.Name n → ⊥) → nat_in bytes names T ≡ None
-  nat_other (text.Name n) o name = absurd (name n refl)
-  nat_other (text.Brackets s es) o name = absurd o
-  nat_other (text.PathLambda s ns e) o name = absurd o
-  nat_other T o name = refl
-
-  pub nat_in_other : (e : Exp) → ((n : Span) → e ≡ Name_ n → ⊥) → ((s : Span) (es : Exps) → e ≡ Brackets_ s es → ⊥) → ((s : Span) (ns : List Span) (p : Box Exp Global) → e ≡ PathLambda_ s ns p → ⊥)
-      → nat_in bytes names (tree_of e) ≡ None
-  nat_in_other e name no_brackets no_path = nat_other (tree_of e) (other e no_brackets no_path) (no_name e name)
 
 where_not : (A B : Type 0) (b : Bool) → b ≡ false → B → where_true b A B
 where_not A B b e h = subst (λ x. where_true x A B) (sym e) h
@@ -511,12 +386,6 @@ module _ (bytes : List ℕ) (names : List Named) where
   takes_none n (found.BuiltIn built_in.Suc) es h cs suc_few rec_few none = where_not _ _ (are_arguments 1 (tree_list element_of es)) (few_arguments es 1 (suc_few refl)) none
   takes_none n (found.BuiltIn built_in.NatRec) es h cs suc_few rec_few none = where_not _ _ (are_arguments 4 (tree_list element_of es)) (few_arguments es 4 (rec_few refl)) none
   takes_none n f es h cs suc_few rec_few none = none
-
-  several : (p : Span) (xs : List Exp) (c : Shape) → (length xs ≡ 1 → ⊥) → Becomes bytes (text.Brackets p (tree_list tree_of xs)) names Term c
-      → (s : Span) → Becomes bytes (text.Brackets p (tree_list tree_of xs)) names (Line s) (code.Applied s c) × Becomes bytes (text.Brackets p (tree_list tree_of xs)) names (Motive s) (code.Applied s c)
-  several p [] c some h s = ((c, refl, h), (c, refl, h))
-  several p (x ∷ []) c some h s = absurd (some refl)
-  several p (x ∷ y ∷ xs) c some h s = ((c, refl, h), (c, refl, h))
 
 -- expressions
 
@@ -635,105 +504,6 @@ pub nothing_opened : (bytes : List ℕ) (names : List Named) (s : Span) (ns : Li
     → Becomes bytes (text.Lambda s (text.more (text.Tele ns t) xs) e) names Term c → Becomes bytes (text.Lambda s (text.more (text.Tele ns t) xs) e) names (Motive p) (code.Applied p c)
 nothing_opened bytes names s [] t xs e p c none h = (c, refl, h)
 nothing_opened bytes names s (n ∷ ns) t xs e p c none h = absurd (let k = none in cc)
-
-module _ {bytes : List ℕ} {names : List Named} (s : Span) {e : Exp} (c : Code) (h : IsTerm bytes names e c) where
-  pub several_line_spelt : (p : Span) (es : Exps) {xs : List Exp} → e ≡ Brackets_ p es → xs ≡ es.items.items → (length xs ≡ 1 → ⊥) → IsLine bytes names s e (Applied_ s c)
-  several_line_spelt p es {xs = xs} i j some =
-      let t = brackets_tree p es i j in
-      let both = several bytes names p xs (shape c) some (subst (λ T. Becomes bytes T names Term (shape c)) t h.becomes) s in
-      record { becomes = subst (λ T. Becomes bytes T names (Line s) (code.Applied s (shape c))) (sym t) both.0 }
-
-  pub several_motive_spelt : (p : Span) (es : Exps) {xs : List Exp} → e ≡ Brackets_ p es → xs ≡ es.items.items → (length xs ≡ 1 → ⊥) → IsMotive bytes names s e (Applied_ s c)
-  several_motive_spelt p es {xs = xs} i j some =
-      let t = brackets_tree p es i j in
-      let both = several bytes names p xs (shape c) some (subst (λ T. Becomes bytes T names Term (shape c)) t h.becomes) s in
-      record { becomes = subst (λ T. Becomes bytes T names (Motive s) (code.Applied s (shape c))) (sym t) both.1 }
-
-  pub names_motive_spelt : (p i : Span) (ns is : List Span) (b : Box Exp Global) → e ≡ PathLambda_ p ns b → ns ≡ i ∷ is → IsMotive bytes names s e (Applied_ s c)
-  names_motive_spelt p i ns is b j k =
-      let t = path_lambda_tree p ns b j (sym k) refl in
-      record { becomes = subst (λ T. Becomes bytes T names (Motive s) (code.Applied s (shape c))) (sym t) (shape c, refl, subst (λ T. Becomes bytes T names Term (shape c)) t h.becomes) }
-
-  pub other_motive_spelt : (p : Span) (xs : Teles) (b : Box Exp Global) {ts : List Tele} (t : Tele) (rest : List Tele) → e ≡ Lambda_ p xs b → ts ≡ tele_items xs → ts ≡ t ∷ rest
-      → nat_in bytes names (tree_of t.ty) ≡ None → IsMotive bytes names s e (Applied_ s c)
-  other_motive_spelt p xs b t rest j k l none =
-      let whole = lambda_tree p xs b j k refl ∙ ap (λ ts. text.Lambda p (tree_list tele_of ts) (tree_of b.value)) l in
-      record {
-        becomes = subst (λ T. Becomes bytes T names (Motive s) (code.Applied s (shape c))) (sym whole)
-            (other_opened bytes names p t.names (tree_of t.ty) (tree_list tele_of rest) (tree_of b.value) s (shape c) none (subst (λ T. Becomes bytes T names Term (shape c)) whole h.becomes));
-      }
-
-  pub nameless_motive_spelt : (p : Span) (xs : Teles) (b : Box Exp Global) {ts : List Tele} (t : Tele) (rest : List Tele) → e ≡ Lambda_ p xs b → ts ≡ tele_items xs → ts ≡ t ∷ rest
-      → t.names ≡ [] → IsMotive bytes names s e (Applied_ s c)
-  nameless_motive_spelt p xs b t rest j k l none =
-      let whole = lambda_tree p xs b j k refl ∙ ap (λ ts. text.Lambda p (tree_list tele_of ts) (tree_of b.value)) l in
-      record {
-        becomes = subst (λ T. Becomes bytes T names (Motive s) (code.Applied s (shape c))) (sym whole)
-            (nothing_opened bytes names p t.names (tree_of t.ty) (tree_list tele_of rest) (tree_of b.value) s (shape c) none (subst (λ T. Becomes bytes T names Term (shape c)) whole h.becomes));
-      }
-
-  -- refused pairs
-
-  pub none_pair_spelt : (p : Span) (es : Exps) {xs : List Exp} → e ≡ Brackets_ p es → xs ≡ es.items.items → xs ≡ [] → Becomes bytes (tree_of e) names (Pair s) (code.PairSide s (shape c) (code.Universe s))
-  none_pair_spelt p es i j k =
-      let t = brackets_tree p es i j ∙ ap (λ ys. text.Brackets p (tree_list tree_of ys)) k in
-      subst (λ T. Becomes bytes T names (Pair s) (code.PairSide s (shape c) (code.Universe s))) (sym t) (shape c, refl, subst (λ T. Becomes bytes T names Term (shape c)) t h.becomes)
-
-  pub names_pair_spelt : (p i : Span) (ns is : List Span) (b : Box Exp Global) → e ≡ PathLambda_ p ns b → ns ≡ i ∷ is
-      → Becomes bytes (tree_of e) names (Pair s) (code.PairSide s (shape c) (code.Universe s))
-  names_pair_spelt p i ns is b j k =
-      let t = path_lambda_tree p ns b j (sym k) refl in
-      subst (λ T. Becomes bytes T names (Pair s) (code.PairSide s (shape c) (code.Universe s))) (sym t) (shape c, refl, subst (λ T. Becomes bytes T names Term (shape c)) t h.becomes)
-
--- written lines and motives
-
-module _ (bytes : List ℕ) (names : List Named) where
-  pub bare_motive_spelt : {E : Type 0} (s p : Span) (xs : Teles) (b : Box Exp Global) {e x : Exp} {ts : List Tele} (r : Result Opened E)
-      → e ≡ Lambda_ p xs b → ts ≡ tele_items xs → ts ≡ [] → x ≡ b.value → IfOk r (λ m. IsMotive bytes names s x m) → IfOk r (λ m. IsMotive bytes names s e m)
-  bare_motive_spelt s p xs b {x = x} (Ok m) i j k l h =
-      record { becomes = subst (λ T. Becomes bytes T names (Motive s) (opened_shape m)) (sym (lambda_tree p xs b i j l ∙ ap (λ ts. text.Lambda p (tree_list tele_of ts) (tree_of x)) k)) h.becomes }
-  bare_motive_spelt s p xs b (Err y) i j k l h = tt
-
-module _ {bytes : List ℕ} {names : List Named} where
-  pub written_line_spelt : {among : List Named} (s p i : Span) (ns is : List Span) (b : Box Exp Global) {e x : Exp} (C D : Code) → e ≡ PathLambda_ p ns b → ns ≡ i ∷ is → x ≡ b.value
-      → among ≡ bound_in (words bytes (i ∷ is)) binding.Interval names → IsTerm bytes among x C → shape D ≡ code.path_lambda s (length is) (shape C) → IsLine bytes names s e (Under s D)
-  written_line_spelt s p i ns is b C D j k l binds h d =
-      record {
-        becomes = subst (λ T. Becomes bytes T names (Line s) (code.Under s (shape D))) (sym (path_lambda_tree p ns b j (sym k) l))
-            (shape C, ap (code.Under s) d, (term_among binds h).becomes);
-      }
-
-  pub opened_motive_spelt : {among last : List Named} (s p v n : Span) (others : List Span) (t : Tele) (rest : List Tele) (xs : Teles) (b : Box Exp Global) {e y : Exp} {ts : List Tele} {bs : List Binder} (C D F : Code)
-      → e ≡ Lambda_ p xs b → ts ≡ tele_items xs → ts ≡ t ∷ rest → t.names ≡ v ∷ others → y ≡ b.value → nat_in bytes names (tree_of t.ty) ≡ Some n
-      → among ≡ bound_in (words bytes (v ∷ others)) binding.Variable names → AreBinders bytes among last rest bs → IsTerm bytes last y C
-      → shape D ≡ code.lambda s (listed of_binder bs) (shape C) → shape F ≡ code.lambda s (numbers (length others) n) (shape D) → IsMotive bytes names s e (Under s F)
-  opened_motive_spelt {among = among} {last = last} s p v n others t rest xs b {y = y} {bs = bs} C D F i j k l m nat binds binders body d f =
-      let whole = lambda_tree p xs b i j m ∙ ap (λ ts. text.Lambda p (tree_list tele_of ts) (tree_of y)) k
-      ∙ ap (λ ns. text.Lambda p (text.more (text.Tele ns (tree_of t.ty)) (tree_list tele_of rest)) (tree_of y)) l in
-      let Opens : List Named → Type 0 = λ ns. Become bytes (under_tele bytes) (tree_list tele_of rest) ns (listed of_binder bs)
-      × Becomes bytes (tree_of y) (after_all (under_tele bytes) (tree_list tele_of rest) (listed of_binder bs) ns) Term (shape C) in
-      let opens : Opens among = (binders.become, (term_among binders.leaves body).becomes) in
-      let there : Opens (bound_in (words bytes (v ∷ others)) binding.Variable names) = subst Opens binds opens in
-      record {
-        becomes = subst (λ T. Becomes bytes T names (Motive s) (code.Under s (shape F))) (sym whole)
-            (where_some (nat_in bytes names (tree_of t.ty)) n _ _ nat (listed of_binder bs, shape C, ap (code.Under s) (f ∙ ap (code.lambda s (numbers (length others) n)) d), there.0, there.1));
-      }
-
-  -- written pairs
-
-  pub several_pair_spelt : (s p : Span) (es : Exps) {e x y : Exp} {xs ys zs : List Exp} {cs : List Code} (A B : Code) → e ≡ Brackets_ p es → xs ≡ es.items.items → xs ≡ x ∷ ys → ys ≡ y ∷ zs
-      → IsTerm bytes names x A → AreTerms bytes names ys cs → shape B ≡ tuple p (listed shape cs) → IsPair bytes names s e A B
-  several_pair_spelt s p es {x = x} {y = y} {ys = ys} {zs = zs} {cs = cs} A B i j k l h g d =
-      let t = brackets_tree p es i j ∙ ap (λ vs. text.Brackets p (tree_list tree_of vs)) (k ∙ ap (λ vs. x ∷ vs) l) in
-      record {
-        becomes = subst (λ T. Becomes bytes T names (Pair s) (code.PairSide s (shape A) (shape B))) (sym t) (
-          shape A,
-          listed shape cs,
-          ap (code.PairSide s (shape A)) d,
-          h.becomes,
-          subst (λ vs. Become bytes binding_nothing (tree_list tree_of vs) names (listed shape cs)) l g.become,
-        );
-      }
 
 -- definitions
 

@@ -1,5 +1,5 @@
 -- What is answered of a text, from what was answered of its parts.
-use Rattle.std.proofs.Common.{◌≡◌, ◌<◌, ◌≤◌, ℕ, List, [], ◌∷◌, length, Result, Ok, Err, IfOk, refl, sym, ap, ◌∙◌, subst, arith}
+use Rattle.std.proofs.Common.{◌≡◌, ◌<◌, ℕ, List, ◌∷◌, length, Result, Ok, Err, IfOk, sym, ap, ◌∙◌, subst}
 use Rattle.layout_lexer.specs.declared.token.Span.{Span}
 use Rattle.syntax.specs.declared.exp.Exp.{Exp}
 use Rattle.syntax.specs.declared.exp.Element.{Element, Argument as Argument'}

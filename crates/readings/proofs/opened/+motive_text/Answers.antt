@@ -1,4 +1,4 @@
-use Rattle.std.proofs.Common.{ap, get_or, is_some, sym, ◌∙◌, arith}
+use Rattle.std.proofs.Common.{get_or, sym, ◌∙◌, arith}
 use Rattle.readings.proofs.Insides.{inside_bare}
 use Rattle.readings.proofs.OpenedTexts.{motive_applied, motive_applied_inside, motive_body, motive_inside, motive_of_another, motive_of_none, motive_under, motive_under_inside, no_lambda}
 use Rattle.readings.proofs.Slices.{front_any, front_one, no_span, none, rest_after}

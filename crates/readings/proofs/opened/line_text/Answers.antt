@@ -1,4 +1,4 @@
-use Rattle.std.proofs.Common.{get_or, sym, ◌∙◌, arith}
+use Rattle.std.proofs.Common.{get_or, arith}
 use Rattle.readings.proofs.Insides.{inside_bare}
 use Rattle.readings.proofs.OpenedTexts.{line_applied, line_applied_inside, line_under, line_under_inside, no_path, some_names}
 use Rattle.readings.proofs.Slices.{front_any, no_span, none, rest_after}

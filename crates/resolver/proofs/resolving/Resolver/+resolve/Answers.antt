@@ -15,7 +15,7 @@ use Rattle.readings.proofs.Applied.{leading_none, leading_more, suc_named, natre
 use Rattle.resolver.proofs.Answered.{few_named, four_arguments, made_answers, defined_names, line_spelt, motive_spelt, opened_fits, other_named, pair_answer_is, pair_refused, pair_spelt}
 use Rattle.codes.specs.Shapes.{shape}
 use Rattle.readings.proofs.Definitions.{def_resolves}
-use Rattle.readings.specs.Spelt.{code_terms, motive_of, terms_of}
+use Rattle.readings.specs.Spelt.{motive_of}
 use Rattle.scopes.specs.Finding.{find}
 use Rattle.scopes.specs.declared.names.Found.TheVariants as found
 use Rattle.translation.specs.declared.built_in.BuiltIn.TheVariants as built_in
