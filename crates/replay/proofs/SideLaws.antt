@@ -21,10 +21,10 @@ use Rattle.replay.proofs.FiledLaws.{take-kept}
 -- what is kept of contexts, as the store grows and is cut back
 
 pub keeps-made : (s : SideConditions) (mark : ℕ) (f g : Meanings) → Kept f g → KeepsBelow mark f s → KeepsBelow mark g s
-keeps-made s mark f g kept = keeps-as mark f g s (λ k lt is. is.1 ∙ sym (kept.keeps k _ is.1))
+keeps-made s mark f g kept = keeps-as mark f g s (λ k x lt is. kept.keeps k x is)
 
 pub keeps-cut : (s : SideConditions) (xs ys : List Thing) → Kept (slice_get xs) (slice_get ys) → KeepsBelow (length xs) (slice_get ys) s → KeepsBelow (length xs) (slice_get xs) s
-keeps-cut s xs ys kept = keeps-as (length xs) (slice_get ys) (slice_get xs) s (λ k lt is. let x = there xs k lt in kept.keeps k x.0 x.1 ∙ sym x.1)
+keeps-cut s xs ys kept = keeps-as (length xs) (slice_get ys) (slice_get xs) s (λ k x lt is. let y = there xs k lt in y.1 ∙ sym (kept.keeps k y.0 y.1) ∙ is)
   where
     there : (zs : List Thing) (k : ℕ) → k < length zs → (x : Thing) × (slice_get zs k ≡ Some x)
     there [] k lt = absurd (omega arith)

@@ -106,7 +106,7 @@ impl RowJudge {
     {
         RowJudge {
             comparison: Comparison::new(alloc),
-            sides: SideConditions::new(),
+            sides: SideConditions::new(alloc),
             store: RowStore::new(alloc),
             filed: FiledRows::new(alloc),
             known: KnownRows::new(alloc),

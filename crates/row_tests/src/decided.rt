@@ -156,7 +156,9 @@ fn holds_and_follows(
     let (rows, ctx) = (&written.rows, CtxId(written.ctx));
     assert!(rt; rows.is_context(ctx) && rows.is_term(face));
     let faces = ContextFaces::read(alloc, rows, ctx)?;
-    Ok((faces.holds(rows, face)?, faces.follows(rows, face)?))
+    let mut conditions = SideConditions::new(alloc);
+    let follows = conditions.decide(alloc, rows, SideTest::Holds(ctx.0, face.0), 0)?;
+    Ok((faces.holds(rows, face)?, follows))
 }
 
 /// Asserts whether the tree of a text holds in the context of another, and whether it follows
@@ -308,8 +310,25 @@ fn is_formula_or_face(
     let faces = ContextFaces::read(alloc, rows, ctx)?;
     let is_formula = faces.form_of(rows, tree)?.is_some();
     let is_face = faces.face_of(rows, tree)?.is_some();
-    assert_eq!(rt; faces.accepts_formula(rows, tree)?, is_formula);
-    assert_eq!(rt; faces.accepts_face(rows, tree)?, is_face);
+    assert_eq!(rt;
+        kind_told(rt, alloc, rows, ctx, tree)?,
+        (is_formula, is_face)
+    );
+    Ok((is_formula, is_face))
+}
+
+/// The same, told without a normal form.
+fn kind_told(
+    rt: &impl Abort,
+    alloc: Global,
+    rows: &RowStore,
+    ctx: CtxId,
+    tree: TermId,
+) -> Result<(bool, bool), Fail> {
+    assert!(rt; rows.is_context(ctx) && rows.is_term(tree));
+    let mut conditions = SideConditions::new(alloc);
+    let is_formula = conditions.decide(alloc, rows, SideTest::IsFormula(ctx.0, tree.0), 0)?;
+    let is_face = conditions.decide(alloc, rows, SideTest::IsFace(ctx.0, tree.0), 0)?;
     Ok((is_formula, is_face))
 }
 
@@ -365,7 +384,7 @@ fn are_alike(
 ) -> Result<bool, Fail> {
     let (rows, ctx) = (&written.rows, written.ctx);
     assert!(rt; rows.is_context(CtxId(ctx)) && rows.is_subst(left) && rows.is_subst(right));
-    let mut conditions = SideConditions::new();
+    let mut conditions = SideConditions::new(alloc);
     Ok(conditions.decide(alloc, rows, SideTest::Alike(ctx, left.0, right.0), 0)?)
 }
 
@@ -416,15 +435,16 @@ fn assert_decided(
 ) -> Result<(), Fail> {
     assert!(rt; rows.is_context(CtxId(outer)) && rows.is_context(CtxId(inner)));
     assert!(rt; rows.is_term(TermId(form)) && rows.is_term(TermId(face)));
-    let mut conditions = SideConditions::new();
+    let mut conditions = SideConditions::new(alloc);
     for (test, wanted) in [
         (SideTest::IsFormula(outer, form), true),
-        (SideTest::IsFormula(outer, face), false),
+        (SideTest::IsFace(outer, form), false),
         (SideTest::Holds(outer, face), false),
         (SideTest::Holds(inner, face), true),
         (SideTest::Holds(inner, form), true),
-        (SideTest::IsFace(outer, face), true),
-        (SideTest::IsFace(outer, form), false),
+        // what was read is remembered
+        (SideTest::Holds(outer, face), false),
+        (SideTest::IsFormula(outer, form), true),
     ] {
         let got = conditions.decide(alloc, rows, test, inner)?;
         assert!(rt; got == wanted, "at {test:?}");
@@ -482,8 +502,6 @@ fn whether_a_tree_is_a_formula_is_told_without_its_normal_form(
 ) -> Result<(), Fail> {
     let (written, tree) = long_formula(&rt, rt.alloc(), 40)?;
     let (rows, ctx) = (&written.rows, CtxId(written.ctx));
-    assert!(rt; rows.is_context(ctx) && rows.is_term(tree));
-    let faces = ContextFaces::read(rt.alloc(), rows, ctx)?;
-    assert!(rt; faces.accepts_formula(rows, tree)? && !faces.accepts_face(rows, tree)?);
+    assert_eq!(rt; kind_told(&rt, rt.alloc(), rows, ctx, tree)?, (true, false));
     Ok(())
 }

@@ -65,7 +65,7 @@ or_right false b h = h
 pub formula_readable : (G : Context) (t : Tree) → is_formula G t ≡ true → IsTrue (is_readable G t)
 formula_readable G t h = or_left (is_formula G t) (is_face G t) h
 
-face_readable : (G : Context) (t : Tree) → is_face G t ≡ true → IsTrue (is_readable G t)
+pub face_readable : (G : Context) (t : Tree) → is_face G t ≡ true → IsTrue (is_readable G t)
 face_readable G t h = or_right (is_formula G t) (is_face G t) h
 
 abbrev ReadableKid : Context → (Subtree → Tree) → Subtree → Type 0

@@ -205,9 +205,12 @@ and_from false b c h e = cc
 pub face_read : (G : Context) (t : Tree) (face : List (List Equation)) → IsFaceOf G t face → (x : Point) → face_truth face x ≡ (is_face G t && is_true (point_by_index G x) t)
 face_read G t face r x = and_from (is_face G t) (face_truth face x) (is_true (point_by_index G x) t) r.is_one (r.truth_is x)
 
-no_face : (a b c : Bool) → a ≡ false → c ≡ false → c ≡ (a && b)
-no_face true b c h e = cc
-no_face false b c h e = e
+pub none_read : (G : Context) (t : Tree) (face : List (List Equation)) → (IsTrue (is_face G t) → ⊥) → ((x : Point) → face_truth face x ≡ false) → (x : Point) → face_truth face x ≡ (is_face G t && is_true (point_by_index G x) t)
+none_read G t face none nowhere x = by (is_face G t) none
+  where
+    by : (a : Bool) → (IsTrue a → ⊥) → face_truth face x ≡ (a && is_true (point_by_index G x) t)
+    by true h = absurd (h refl)
+    by false _ = nowhere x
 
 all_suc : (x : Point) (faces : List (List (List Equation))) (at : ℕ) (d : List (List Equation)) → at < length faces → list_all (λ g. face_truth g x) (take (suc at) faces) ≡ (list_all (λ g. face_truth g x) (take at faces) && face_truth (get_or faces at d) x)
 all_suc x [] at d lt = absurd (omega arith)

@@ -1,19 +1,22 @@
--- What is kept of a context, over other rows.
-use Rattle.std.proofs.Common.{◌≡◌, ℕ, ◌<◌, ◌≤◌, Option, Some, None, sym, ◌∙◌, ap, subst, arith}
-use Rattle.std.specs.Prelude.{IfSome}
-use Rattle.trees.specs.Things.{Meanings}
+-- What is kept of contexts that were asked about, over other rows.
+use Rattle.std.proofs.Common.{◌≡◌, ℕ, ◌<◌, ◌≤◌, Some, sym, ◌∙◌, ap, subst, arith}
+use Rattle.std.proofs.lemmas.List.Elements.{All-weaker}
+use Rattle.trees.specs.Things.{Thing, Meanings}
 use Rattle.rows.specs.Views.{IsContext}
 use Rattle.rows.specs.declared.views.CtxId.{CtxId}
+use Rattle.side_conditions.specs.declared.asked.Asked.{Asked}
 use Rattle.side_conditions.specs.declared.context_faces.ContextFaces.{ContextFaces}
 use Rattle.side_conditions.specs.declared.deciding.SideConditions.{SideConditions}
+use Rattle.side_conditions.specs.declared.reading.Detail.TheVariants as detail
 use Rattle.side_conditions.specs.Levels.{indices}
-use Rattle.side_conditions.specs.Readings.{AreFacesOf}
+use Rattle.side_conditions.specs.Readings.{AreFacesOf, IsValued}
 use Rattle.side_conditions.specs.Contexts.{context_of}
 use Rattle.side_conditions.specs.Held.{StandsFor}
-use Rattle.side_conditions.specs.Kept.{KeepsBelow}
+use Rattle.side_conditions.specs.Kept.{IsAsked, KeepsBelow, StaysBelow}
+use Rattle.side_conditions.proofs.RememberedLaws.{kept-as}
 
 -- the row of the context means the same
-pub stands-as : (f g : Meanings) (ctx : CtxId) (c : ContextFaces) → f ctx.0 ≡ g ctx.0 → StandsFor f ctx c → StandsFor g ctx c
+stands-as : (f g : Meanings) (ctx : CtxId) (c : ContextFaces) → f ctx.0 ≡ g ctx.0 → StandsFor f ctx c → StandsFor g ctx c
 stands-as f g ctx c e s = record {
   row_is = s.row_is;
   is_context = subst IsContext e s.is_context;
@@ -28,21 +31,32 @@ stands-self f ctx c s = subst (λ x. StandsFor f x c) (sym s.row_is) s
 pub stands-still : (f : Meanings) (ctx : CtxId) (old new : ContextFaces) → StandsFor f ctx old → StandsFor f old.ctx new → StandsFor f ctx new
 stands-still f ctx old new s = subst (λ x. StandsFor f x new) s.row_is
 
-abbrev Keeps : ℕ → Meanings → Option ContextFaces → Type 0
-Keeps mark f last = IfSome last (λ c. StandsFor f c.ctx c × (c.ctx.0 < mark))
+-- the first rows mean the same
+asked-as : (mark : ℕ) (f g : Meanings) (a : Asked) → ((k : ℕ) (x : Thing) → k < mark → f k ≡ Some x → g k ≡ Some x) → IsAsked f a → StaysBelow mark a → IsAsked g a
+asked-as mark f g a same asked stays =
+    let ctx = asked.stands.is_context in
+    record {
+      stands = stands-as f g a.faces.ctx a.faces (ctx.1 ∙ sym (same a.faces.ctx.0 _ stays.ctx ctx.1)) asked.stands;
+      kinds = kept-as (IsValued detail.Kind) mark f g a.faces.names.items a.kinds same stays.kinds asked.kinds;
+      values = kept-as (IsValued detail.Value) mark f g a.faces.names.items a.values same stays.values asked.values;
+    }
 
--- the first rows mean the same, as far as they are contexts
-pub keeps-as : (mark : ℕ) (f g : Meanings) (s : SideConditions) → ((k : ℕ) → k < mark → IsContext (f k) → f k ≡ g k) → KeepsBelow mark f s → KeepsBelow mark g s
-keeps-as mark f g s same = by s.last
-  where
-    by : (last : Option ContextFaces) → Keeps mark f last → Keeps mark g last
-    by None keeps = keeps
-    by (Some c) keeps = (stands-as f g c.ctx c (same c.ctx.0 keeps.1 keeps.0.is_context) keeps.0, keeps.1)
+pub keeps-as : (mark : ℕ) (f g : Meanings) (s : SideConditions) → ((k : ℕ) (x : Thing) → k < mark → f k ≡ Some x → g k ≡ Some x) → KeepsBelow mark f s → KeepsBelow mark g s
+keeps-as mark f g s same keeps = record {
+  each = All-weaker (λ a. IsAsked f a × StaysBelow mark a) (λ a. IsAsked g a × StaysBelow mark a)
+      (λ a kept. (asked-as mark f g a same kept.0 kept.1, kept.1)) s.asked.items keeps.each;
+}
 
 -- more rows are the first
 pub keeps-more : (mark more : ℕ) (f : Meanings) (s : SideConditions) → mark ≤ more → KeepsBelow mark f s → KeepsBelow more f s
-keeps-more mark more f s le = by s.last
+keeps-more mark more f s le keeps = record {
+  each = All-weaker (λ a. IsAsked f a × StaysBelow mark a) (λ a. IsAsked f a × StaysBelow more a)
+      (λ a kept. (kept.0, further a kept.1)) s.asked.items keeps.each;
+}
   where
-    by : (last : Option ContextFaces) → Keeps mark f last → Keeps more f last
-    by None keeps = keeps
-    by (Some c) keeps = (keeps.0, omega (arith, keeps.1))
+    further : (a : Asked) → StaysBelow mark a → StaysBelow more a
+    further a stays =
+        let ctx = stays.ctx in
+        let kinds = stays.kinds in
+        let values = stays.values in
+        record { ctx = omega arith; kinds = omega arith; values = omega arith }

@@ -8,5 +8,6 @@ pub mod CombinedLaws
 pub mod WalkLaws
 pub mod ContextLaws
 pub mod AlikeLaws
+pub mod RememberedLaws
 pub mod KeptLaws
 pub mod FormulaLaws

@@ -12,3 +12,5 @@ pub mod Held
 pub mod Formulas
 pub mod Kept
 pub mod Asked
+pub mod Whole
+pub mod Remembered

@@ -4,7 +4,7 @@ ghost use Rattle.std.specs.Prelude.{IfOk, IfSome};
 ghost use Rattle.side_conditions.specs.Contexts.{IsMeetOf};
 
 use crate::alike::alike;
-use crate::contexts::{face_or_bottom, faces_of, meet_of, names_of};
+use crate::contexts::{faces_of, meet_of, names_of};
 use crate::reading::{Detail, Reading};
 use crate::restriction::same_under;
 use crate::walk::read_row;
@@ -25,12 +25,14 @@ pub struct ContextFaces {
 
 impl ContextFaces {
     ghost use Rattle.std.specs.Prelude.{◌≡◌, ◌↔◌, IfOk, IfSome, IsTrue, MatchOption};
+    ghost use Rattle.std.specs.Prelude.{option_copied};
     ghost use Rattle.trees.specs.Trees.{Tree};
     ghost use Rattle.trees.specs.Things.{Meanings};
     ghost use Rattle.rows.specs.Views.{IsTree, IsSubst, IsContext};
     ghost use Rattle.closures.specs.Closures.{subst_of};
     ghost use Rattle.conditions.specs.Sides.{is_formula, is_face, HoldsIn, SameIn, AlikeIn};
     ghost use Rattle.side_conditions.specs.Readings.{IsFormOf, IsFaceOf};
+    ghost use Rattle.side_conditions.specs.Formulas.{IsFaceOr};
     ghost use Rattle.side_conditions.specs.Shapes.{tree_of};
     ghost use Rattle.side_conditions.specs.Contexts.{context_of, IsMeetOf};
     ghost use Rattle.side_conditions.specs.Held.{StandsFor};
@@ -55,34 +57,6 @@ impl ContextFaces {
         ensures { result ≡ self.now.ctx }
     {
         self.ctx
-    }
-
-    /// Whether the tree is a formula over the names of the context. No normal form is made.
-    pub fn accepts_formula<R: Reader>(&self, rows: &R, tree: TermId) -> Result<bool, AllocError>
-        requires stands { StandsFor (R.means rows.now) self.now.ctx self.now }
-        requires tree { IsTree (R.means rows.now tree.0) }
-        ensures { IfOk result (λ accepts.
-            let f = R.means rows.now in IsTrue accepts ↔
-            IsTrue (is_formula (context_of (f self.now.ctx.0)) (tree_of (f tree.0)))) }
-    {
-        match read_row(self.alloc(), rows, &self.names, Detail::Kind, tree)? {
-            Some(Reading::Form(_)) => Ok(true),
-            Some(Reading::Face(_)) | None => Ok(false),
-        }
-    }
-
-    /// Whether the tree is a face over the names of the context. No normal form is made.
-    pub fn accepts_face<R: Reader>(&self, rows: &R, tree: TermId) -> Result<bool, AllocError>
-        requires stands { StandsFor (R.means rows.now) self.now.ctx self.now }
-        requires tree { IsTree (R.means rows.now tree.0) }
-        ensures { IfOk result (λ accepts.
-            let f = R.means rows.now in IsTrue accepts ↔
-            IsTrue (is_face (context_of (f self.now.ctx.0)) (tree_of (f tree.0)))) }
-    {
-        match read_row(self.alloc(), rows, &self.names, Detail::Kind, tree)? {
-            Some(Reading::Face(_)) => Ok(true),
-            Some(Reading::Form(_)) | None => Ok(false),
-        }
     }
 
     /// The form of a formula, with its value under every valuation. None exactly where the tree is
@@ -138,17 +112,18 @@ impl ContextFaces {
         }
     }
 
-    /// Whether the tree is true at every point at which all faces of the context are. A tree that
-    /// is no face is true at no point, so that this holds of it where the faces of the context are
-    /// never true together.
-    pub fn follows<R: Reader>(&self, rows: &R, tree: TermId) -> Result<bool, AllocError>
-        requires stands { StandsFor (R.means rows.now) self.now.ctx self.now }
-        requires tree { IsTree (R.means rows.now tree.0) }
-        ensures { let f = R.means rows.now in IfOk result (λ follows.
-            IsTrue follows ↔ HoldsIn (context_of (f self.now.ctx.0)) (tree_of (f tree.0))) }
+    /// Whether a tree is true at every point at which all faces of the context are, by its face. A
+    /// tree that is no face is true at no point, so that this holds of it where the faces of the
+    /// context are never true together.
+    pub(crate) fn make_true(&self, face: Option<&Face>) -> Result<bool, AllocError>
+        ensures { IfOk result (λ holds. (f : Meanings) → StandsFor f self.now.ctx self.now
+            → let G = context_of (f self.now.ctx.0) in
+            (t : Tree) → IsFaceOr G t (option_copied face.entry) → IsTrue holds ↔ HoldsIn G t) }
     {
-        let face = face_or_bottom(self.alloc(), rows, &self.names, tree)?;
-        Ok(face.holds_under(&self.faces)?)
+        match face {
+            Some(face) => Ok(face.holds_under(&self.faces)?),
+            None => Ok(Face::bottom(self.alloc())?.holds_under(&self.faces)?),
+        }
     }
 
     /// Whether two substitutions are alike: they have one shift, and push equally many trees, which

@@ -41,7 +41,7 @@ impl Reading {
     }
 
     /// The face, where it is one.
-    fn face(&self) -> Option<&Face>
+    pub fn face(&self) -> Option<&Face>
         ensures { option_copied result ≡ face_in self.now }
     {
         match self {

@@ -1,8 +1,10 @@
 //! Trees below the binders of a face.
 
 ghost use Rattle.std.specs.Prelude.{◌≡◌};
+ghost use Rattle.side_conditions.specs.Whole.{whole_row as row_of};
 
-use closures::Closure;
+use closures::{Closure, Environment};
+use rows::TermId;
 
 /// The tree of a closure, below so many `all`, each of which binds a name.
 #[derive(Clone, Copy, Debug, PartialEq, Eq, Hash)]
@@ -18,5 +20,15 @@ impl Subtree {
         ensures depth { result.depth ≡ 0 }
     {
         Subtree { closure, depth: 0 }
+    }
+
+    /// The row whose tree this is as it stands, if it is that of one.
+    pub fn whole_row(&self) -> Option<TermId>
+        ensures { result ≡ row_of self.now }
+    {
+        match (self.closure.environment, self.depth) {
+            (Environment::Empty, 0) => Some(self.closure.row),
+            _ => None,
+        }
     }
 }

@@ -90,6 +90,7 @@ pub fn read<R: Reader>(
     ensures keeps { OnOk result ((s : Subtree) → IsSome (reading_at readings.old s)
         → IsSome (reading_at readings.new s)) }
     ensures there { OnOk result (IsSome (reading_at readings.new root)) }
+    ensures mark { OnOk result (readings.new.mark ≡ readings.old.mark) }
 {
     let mut tasks = Vec::new(alloc);
     tasks.push(Task::Read(root))?;

@@ -1,5 +1,5 @@
 use Rattle.std.specs.Prelude.{option_and_then}
-use Rattle.std.proofs.Common.{ap, Some}
+use Rattle.std.proofs.Common.{rules, ap, Some}
 use Rattle.rows.specs.Shown.{things}
 use Rattle.derivation.specs.Meanings.{Concludes}
 use Rattle.replay.specs.Filed.{file_meanings}
@@ -46,3 +46,10 @@ returns-in-None-2 c =
       keeps = keeps-grown c.args.sides.now xs (things c.thing_row.new.store) c.thing_row.ensures.kept c.requires.keeps;
       is = thing_wrong (file_meanings xs es) (some_filed xs es (not_empty es _ c.if-is_empty.false c.is_empty.ensures)) c.args.row.now c.in_default-row.not-Node c.in_default-row.not-Root none;
     }
+
+pub returns-in_err-at-in_default-row : goal.returns-in_err-at-in_default-row
+returns-in_err-at-in_default-row c = record {
+  kept = c.thing_row.ensures.kept;
+  keeps = keeps-grown c.args.sides.now (things c.args.store.now) (things c.thing_row.new.store) c.thing_row.ensures.kept c.requires.keeps;
+  is = search rules;
+}

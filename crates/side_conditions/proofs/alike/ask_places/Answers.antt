@@ -29,7 +29,7 @@ loop-left-init g c =
       places-begin f (context_of (f c.args.faces.now.ctx.0)) (lists c.args.environments.now) c.args.left.0 c.args.right.0 c.of_row-left.result c.of_row-right.result c.args.pairs.now.keys
           (ap (λ (r : SubId). r.0) c.of_row-left.ensures.row) c.of_row-left.ensures.environment (ap (λ (r : SubId). r.0) c.of_row-right.ensures.row) c.of_row-right.ensures.environment c.requires.left c.requires.right c.requires.nothing,
       c.requires.stands,
-      remembers_nothing (IsValued detail.Value) f (lists c.args.environments.now) c.args.faces.now.names.items (reading_at c.new-readings.result) c.new-readings.ensures,
+      remembers_nothing (IsValued detail.Value) f (lists c.args.environments.now) c.args.faces.now.names.items (reading_at c.new-readings.result) c.new-readings.ensures.nothing,
     )
 
 pub returns-clause-yes : goal.returns-clause-yes

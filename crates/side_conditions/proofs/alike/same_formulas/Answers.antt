@@ -8,7 +8,8 @@ use Rattle.side_conditions.specs.Contexts.{context_of}
 use Rattle.side_conditions.specs.Readings.{IsFormOf, IsValued}
 use Rattle.side_conditions.specs.Shapes.{tree_of}
 use Rattle.side_conditions.specs.Shown.{reading_at}
-use Rattle.side_conditions.proofs.FormulaLaws.{IsFormOr, form-at}
+use Rattle.side_conditions.specs.Formulas.{IsFormOr}
+use Rattle.side_conditions.proofs.FormulaLaws.{form-at}
 use Rattle.side_conditions.proofs.alike.same_formulas.Goals as goal
 
 pub read-requires-2-clause-stands : goal.read-requires-2-clause-stands

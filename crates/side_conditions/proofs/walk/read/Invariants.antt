@@ -1,4 +1,4 @@
-use Rattle.std.proofs.Common.{reverse}
+use Rattle.std.proofs.Common.{◌≡◌, reverse}
 use Rattle.closures.specs.Shown.{lists}
 use Rattle.side_conditions.specs.Readings.{IsValued}
 use Rattle.side_conditions.specs.Shapes.{tree_at}
@@ -11,6 +11,7 @@ use Rattle.side_conditions.proofs.walk.read.Given as goal
 abbrev pub invariant-loop-task : goal.invariant-loop-task
 invariant-loop-task g l =
     Walks (IsValued l.detail) (g.R.Rows.means l.rows) l.names l.fn.root (lists l.fn.environments) (reading_at l.fn.readings) (lists l.environments) (reading_at l.readings) (reverse l.tasks.items)
+    × (l.readings.mark ≡ l.fn.readings.mark)
 
 abbrev pub decreases-loop-task : goal.decreases-loop-task
 decreases-loop-task g l = all_steps (tree_at (g.R.Rows.means l.rows) (lists l.environments)) (reverse l.tasks.items)

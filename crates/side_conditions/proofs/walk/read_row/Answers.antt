@@ -18,7 +18,7 @@ read-requires-clause-stands g c =
 
 pub read-requires-clause-remembers : goal.read-requires-clause-remembers
 read-requires-clause-remembers g c =
-    remembers_nothing (IsValued c.args.detail) (g.R.Rows.means c.args.rows.now) (lists c.new-environments.result) c.args.names.now (reading_at c.new-readings.result) c.new-readings.ensures
+    remembers_nothing (IsValued c.args.detail) (g.R.Rows.means c.args.rows.now) (lists c.new-environments.result) c.args.names.now (reading_at c.new-readings.result) c.new-readings.ensures.nothing
 
 pub returns : goal.returns
 returns g c = λ G same.
