@@ -2,5 +2,4 @@ pub mod MeaningLaws
 pub mod TypingLaws
 pub mod OneCode
 pub mod NumberLaws
-pub mod TextLaws
 pub mod ProgramLaws

@@ -1,7 +1,5 @@
--- Whichever codes modules become, numbered in order, they are one but for where their parts lie;
--- also where the modules differ in where they lie.
+-- Whichever codes modules become, numbered in order, they are one but for where their parts lie.
 use Rattle.std.proofs.Common.{◌≡◌, ◌+◌, ℕ, List, [], ◌∷◌, ◌++◌, length, map, reverse, refl, sym, ◌∙◌, ap, subst, add_comm}
-use Rattle.syntax.specs.View.{module_of}
 use Rattle.codes.specs.declared.code.CodeDef.{CodeDef, CodeDef', out-CodeDef}
 use Rattle.codes.specs.Codes.{definitions}
 use Rattle.codes.specs.Shapes.{Shape, Shapes, none, more, Def, def_shape, listed}
@@ -12,12 +10,10 @@ use Rattle.scopes.specs.Steps.{count_from, named_of}
 use Rattle.scopes.proofs.Moving.{count_append}
 use Rattle.direct.specs.Known.{Known}
 use Rattle.direct.specs.Direct.{other_place}
-use Rattle.module_texts.specs.declared.text.ModuleText.{ModuleText}
-use Rattle.module_texts.specs.Texts.{name_of, imports_of}
+use Rattle.module_texts.specs.Texts.{Text, imports_of}
 use Rattle.readings.specs.Shaped.{after_definition}
 use Rattle.resolver.specs.declared.resolving.Codes.{Codes}
 use Rattle.resolver.specs.Resolved.{bound_by, definitions_of, defs_in}
-use Rattle.loading.specs.Same.{SameTexts}
 use Rattle.linking.specs.Modules.{reached}
 use Rattle.linking.specs.Reaching.{Numbered}
 use Rattle.linking.specs.Linked.{AllBecome, IsLinked, numbered_as}
@@ -25,7 +21,6 @@ use Rattle.determined.specs.Numbers.{numbers_before, numbers_in, AreNumbered}
 use Rattle.determined.proofs.OneCode.{one_codes}
 use Rattle.determined.proofs.NumberLaws.{Counts, defs-count}
 use Rattle.determined.proofs.TypingLaws.{one_place}
-use Rattle.determined.proofs.TextLaws.{same_codes}
 
 -- lists of shapes
 
@@ -53,15 +48,15 @@ unfolding out-CodeDef denote.Hole.Carrier.out
 bound_is bytes [] = refl
 bound_is bytes (CodeDef' x n m bs t b ∷ cs) = ap (λ ns. record { name = word bytes x; def = n } ∷ ns) (bound_is bytes cs)
 
-same_module : (x : ModuleText) (cs ds : List CodeDef) → listed def_shape cs ≡ listed def_shape ds → numbered_as x cs ≡ numbered_as x ds
+same_module : (x : Text) (cs ds : List CodeDef) → listed def_shape cs ≡ listed def_shape ds → numbered_as x cs ≡ numbered_as x ds
 same_module x cs ds e =
-    let bytes = x.bytes.items in
-    ap (λ ns. record { name = name_of x; imports = imports_of x; defs = reverse ns })
+    let bytes = x.bytes in
+    ap (λ ns. record { name = x.name; imports = imports_of x; defs = reverse ns })
     (bound_is bytes cs ∙ ap (bound_of bytes) e ∙ sym (bound_is bytes ds))
 
 -- modules, one after another
 
-one_program : (xs : List ModuleText) (known : List Numbered) (cs ds : List CodeDef) (all others : List Numbered) (r s : List ℕ)
+one_program : (xs : List Text) (known : List Numbered) (cs ds : List CodeDef) (all others : List Numbered) (r s : List ℕ)
     → AllBecome known xs cs all → AllBecome known xs ds others → numbers_in (listed def_shape cs) r ≡ numbers_in (listed def_shape ds) s
     → (listed def_shape cs ≡ listed def_shape ds) × (r ≡ s)
 one_program [] known cs ds all others r s i j e =
@@ -74,8 +69,8 @@ one_program (x ∷ xs) known cs ds all others r s (f, k, is, m, h) (g, l, are, n
     let counts : numbers_in (listed def_shape f) (numbers_in (listed def_shape k) r) ≡ numbers_in (listed def_shape g) (numbers_in (listed def_shape l) s) =
     sym (joined_counts (listed def_shape f) (listed def_shape k) r) ∙ ap (λ z. numbers_in z r) (sym left) ∙ e ∙ ap (λ z. numbers_in z s) right
     ∙ joined_counts (listed def_shape g) (listed def_shape l) s in
-    let bytes = x.bytes.items in
-    let first = (one_codes bytes (definitions_of (module_of x.module)) (after_definition bytes) (map named_of (reached known (imports_of x)))).one
+    let bytes = x.bytes in
+    let first = (one_codes bytes (definitions_of x.tree) (after_definition bytes) (map named_of (reached known (imports_of x)))).one
     (listed def_shape f) (listed def_shape g) (numbers_in (listed def_shape k) r) (numbers_in (listed def_shape l) s) m n counts in
     let here : AllBecome (numbered_as x g ∷ known) xs k all = subst (λ y. AllBecome (y ∷ known) xs k all) (same_module x f g first.0) h in
     let rest = one_program xs (numbered_as x g ∷ known) k l all others r s here o first.1 in
@@ -87,14 +82,13 @@ from_next : (ds : List (Stated ℕ)) (next m : ℕ) {f : List ℕ → List ℕ} 
 from_next ds next m h e =
     sym (h.counted _) ∙ ap (λ ns. ns ++ count_from m (next + length ds)) e ∙ sym (count_append (length ds) m next)
 
-pub one_list : (xs ys : List ModuleText) (a b : Codes) → SameTexts xs ys → IsLinked xs a → IsLinked ys b → listed def_shape (defs_in a) ≡ listed def_shape (defs_in b)
-one_list xs ys a b s i j =
+pub one_list : (texts : List Text) (a b : Codes) → IsLinked texts a → IsLinked texts b → listed def_shape (defs_in a) ≡ listed def_shape (defs_in b)
+one_list texts a b i j =
     let ds = (definitions (defs_in a) []).stated in
     let es = (definitions (defs_in b) []).stated in
-    (one_program ys [] (defs_in a) (defs_in b) i.known j.known (count_from (length es) (0 + length ds)) (count_from (length ds) (0 + length es))
-    (same_codes [] xs ys (defs_in a) i.known s i.spelt) j.spelt
+    (one_program texts [] (defs_in a) (defs_in b) i.known j.known (count_from (length es) (0 + length ds)) (count_from (length ds) (0 + length es)) i.spelt j.spelt
     (from_next ds 0 (length es) (defs-count (defs_in a) []) i.numbered ∙ ap (λ k. count_from k 0) (add_comm (length ds) (length es))
     ∙ sym (from_next es 0 (length ds) (defs-count (defs_in b) []) j.numbered))).0
 
-pub one_answer : (xs ys : List ModuleText) (a b : Codes) (G : Known) → SameTexts xs ys → IsLinked xs a → IsLinked ys b → other_place (defs_in a) G ≡ other_place (defs_in b) G
-one_answer xs ys a b G s i j = one_place (defs_in a) (defs_in b) G (one_list xs ys a b s i j)
+pub one_answer : (texts : List Text) (a b : Codes) (G : Known) → IsLinked texts a → IsLinked texts b → other_place (defs_in a) G ≡ other_place (defs_in b) G
+one_answer texts a b G i j = one_place (defs_in a) (defs_in b) G (one_list texts a b i j)

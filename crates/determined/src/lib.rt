@@ -18,11 +18,10 @@ ghost use Rattle.codes.specs.Shapes.{Shape, Shapes, def_shape, listed, shape};
 ghost use Rattle.scopes.specs.Finding.{Named};
 ghost use Rattle.direct.specs.Known.{Known};
 ghost use Rattle.direct.specs.Direct.{def_typing, other_place, typing};
-ghost use Rattle.module_texts.specs.declared.text.ModuleText.{ModuleText};
+ghost use Rattle.module_texts.specs.Texts.{Text};
 ghost use Rattle.readings.specs.Shaped.{Become, BecomeSides, Becomes, Scoping, Stand};
 ghost use Rattle.resolver.specs.declared.resolving.Codes.{Codes};
 ghost use Rattle.resolver.specs.Resolved.{defs_in};
-ghost use Rattle.loading.specs.Same.{SameTexts};
 ghost use Rattle.linking.specs.Linked.{IsLinked};
 ghost use Rattle.determined.specs.Numbers.{numbers_before, numbers_in};
 
@@ -64,13 +63,11 @@ pub fn numbers_are_of_shapes()
         map (λ d. d.name) (definitions ds G).stated ++ r ≡ numbers_in (listed def_shape ds) r }
 {}
 
-/// A law, and no code: whichever codes the definitions become of modules with the same names, texts
-/// and trees, wherever these lie in memory, they are one but for where their parts lie in memory,
-/// and the first that is not direct stands at the same place in them.
+/// A law, and no code: whichever codes the definitions of modules become, they are one but for
+/// where their parts lie in memory, and the first that is not direct stands at the same place.
 pub fn texts_determine_directness()
-    ensures codes { (xs ys : List ModuleText) (a b : Codes) → SameTexts xs ys → IsLinked xs a
-        → IsLinked ys b → listed def_shape (defs_in a) ≡ listed def_shape (defs_in b) }
-    ensures places { (xs ys : List ModuleText) (a b : Codes) (G : Known) → SameTexts xs ys
-        → IsLinked xs a → IsLinked ys b
-        → other_place (defs_in a) G ≡ other_place (defs_in b) G }
+    ensures codes { (texts : List Text) (a b : Codes) → IsLinked texts a → IsLinked texts b
+        → listed def_shape (defs_in a) ≡ listed def_shape (defs_in b) }
+    ensures places { (texts : List Text) (a b : Codes) (G : Known) → IsLinked texts a
+        → IsLinked texts b → other_place (defs_in a) G ≡ other_place (defs_in b) G }
 {}

@@ -1,9 +1,8 @@
 -- One module after another.
 use Rattle.std.proofs.Common.{◌≡◌, ◌<◌, ◌≤◌, ◌+◌, ◌-◌, ℕ, zero, suc, Bool, true, false, if◌then◌else◌, List, [], ◌∷◌, ◌++◌, map, length, take, reverse, get_or, bytes_eq, refl, sym, ◌∙◌, ap, subst, arith, append_assoc, None}
 use Rattle.std.specs.List.{All, flat_map, list_any}
-use Rattle.std.proofs.lemmas.List.{get_or-reverse, reverse-append, reverse-reverse, length-append, length-map, length-reverse}
+use Rattle.std.proofs.lemmas.List.{get_or-map, get_or-reverse, map_push, reverse-append, reverse-reverse, length-append, length-map, length-reverse, take-map}
 use Rattle.std.proofs.lemmas.List.Concat.{flat_map-append}
-use Rattle.syntax.specs.View.{module_of}
 use Rattle.translation.specs.declared.fault.ScopeFault.{ScopeFault}
 use Rattle.translation.specs.Scopes.{Scope, context_of}
 use Rattle.translation.specs.Translated.{Translated, Stated, Refuses, done, ◌>>=◌, judgements_of}
@@ -19,7 +18,7 @@ use Rattle.scopes.specs.Steps.{count_from, named_of}
 use Rattle.scopes.proofs.Moving.{count_append}
 use Rattle.readings.specs.Shaped.{Become, after_definition}
 use Rattle.module_texts.specs.declared.text.ModuleText.{ModuleText}
-use Rattle.module_texts.specs.Texts.{name_of, imports_of}
+use Rattle.module_texts.specs.Texts.{Text, imports_of, name_of, text_of}
 use Rattle.resolver.specs.declared.resolving.Codes.{Codes}
 use Rattle.resolver.specs.Resolved.{AreCodes, AreEarlier, AreSpelt, Holds, IsFaultOf, Leaves, bound_as, bound_by, definitions_of, entry, words, defs_in as codes_in}
 use Rattle.resolver.proofs.Leaving.{words_append, words_kept}
@@ -29,6 +28,17 @@ use Rattle.linking.specs.Modules.{Known, AreFine, RefusedFirst, and_known, defs_
 use Rattle.linking.specs.Reaching.{Numbered, Stand, Sees, are_among, names_of}
 use Rattle.linking.specs.Linked.{AllBecome, ModuleBecomes, HasLinked, IsLinked, Keeps, known_after, meaning_of_next, numbered_as, with_bodies}
 use Rattle.linking.proofs.ReachLaws.{all_append, all_one, names_push, take_more}
+
+-- the names of modules
+abbrev name_list : List Text → List (List ℕ)
+name_list = map (λ (x : Text). x.name)
+
+named_texts : (ms : List ModuleText) → map name_of ms ≡ name_list (map text_of ms)
+named_texts [] = refl
+named_texts (m ∷ ms) = ap (λ ns. name_of m ∷ ns) (named_texts ms)
+
+pub among_texts : {flags : List Bool} (names : List (List ℕ)) (ms : List ModuleText) → flags ≡ are_among names (map name_of ms) → flags ≡ are_among names (name_list (map text_of ms))
+among_texts names ms e = e ∙ ap (are_among names) (named_texts ms)
 
 counted : (n k : ℕ) → length (count_from n k) ≡ n
 counted zero k = refl
@@ -47,26 +57,26 @@ named_more f g ls rs all cs c is before here =
     ap (map f) is ∙ map_append f ls rs ∙ ap (λ ns. ns ++ map f rs) before ∙ ap (λ ns. flat_map g cs ++ ns) (here ∙ sym (append_empty (g c)))
     ∙ sym (flat_map-append g cs (c ∷ []))
 
-become_more : (known : List Numbered) (xs : List ModuleText) (x : ModuleText) (cs ds all : List CodeDef) (last : List Numbered) → all ≡ cs ++ ds
+become_more : (known : List Numbered) (xs : List Text) (x : Text) (cs ds all : List CodeDef) (last : List Numbered) → all ≡ cs ++ ds
     → AllBecome known xs cs last → ModuleBecomes last x ds → AllBecome known (xs ++ x ∷ []) all (numbered_as x ds ∷ last)
 become_more known [] x cs ds all last is h k =
     (ds, [], is ∙ ap (λ es. es ++ ds) h.0 ∙ sym (append_empty ds), subst (λ ns. ModuleBecomes ns x ds) h.1 k, (refl, ap (λ ns. numbered_as x ds ∷ ns) h.1))
 become_more known (y ∷ ys) x cs ds all last is (first, rest, split, here, others) k =
     (first, rest ++ ds, is ∙ ap (λ es. es ++ ds) split ∙ append_assoc first rest ds, here, become_more (numbered_as y first ∷ known) ys x rest ds (rest ++ ds) last refl others k)
 
-known_more : (known : List Known) (xs : List ModuleText) (x : ModuleText) → known_after known (xs ++ x ∷ []) ≡ and_known (known_after known xs) x
+known_more : (known : List Known) (xs : List Text) (x : Text) → known_after known (xs ++ x ∷ []) ≡ and_known (known_after known xs) x
 known_more known [] x = refl
 known_more known (y ∷ ys) x = known_more (and_known known y) ys x
 
-meanings_more : (known : List Known) (xs : List ModuleText) (x : ModuleText) → meanings_after known (xs ++ x ∷ []) ≡ meanings_after known xs ++ meaning_after (known_after known xs) x ∷ []
+meanings_more : (known : List Known) (xs : List Text) (x : Text) → meanings_after known (xs ++ x ∷ []) ≡ meanings_after known xs ++ meaning_after (known_after known xs) x ∷ []
 meanings_more known [] x = refl
 meanings_more known (y ∷ ys) x = ap (λ ms. meaning_after known y ∷ ms) (meanings_more (and_known known y) ys x)
 
-names_known : (known : List Known) (xs : List ModuleText) → names_of (known_after known xs) ≡ names_of known ++ map name_of xs
+names_known : (known : List Known) (xs : List Text) → names_of (known_after known xs) ≡ names_of known ++ name_list xs
 names_known known [] = sym (append_empty (names_of known))
 names_known known (x ∷ xs) =
-    names_known (and_known known x) xs ∙ ap (λ ns. ns ++ map name_of xs) (names_push (known_as x (meaning_after known x).value) known)
-    ∙ append_assoc (names_of known) (name_of x ∷ []) (map name_of xs)
+    names_known (and_known known x) xs ∙ ap (λ ns. ns ++ name_list xs) (names_push (known_as x (meaning_after known x).value) known)
+    ∙ append_assoc (names_of known) (x.name ∷ []) (name_list xs)
 
 definitions_append : (cs ds : List CodeDef) (H : Scope ℕ) → definitions (cs ++ ds) H ≡ (definitions cs H >>= λ K. definitions ds K)
 definitions_append [] ds H = refl
@@ -74,7 +84,7 @@ definitions_append (c ∷ cs) ds H =
     then_same (definition c H) (λ K. definitions (cs ++ ds) K) (λ K. definitions cs K >>= λ L. definitions ds L) (definitions_append cs ds (definition c H).value)
     ∙ sym (then_assoc (definition c H) (λ K. definitions cs K) (λ K. definitions ds K))
 
-length_meanings : (known : List Known) (xs : List ModuleText) → length (meanings_after known xs) ≡ length xs
+length_meanings : (known : List Known) (xs : List Text) → length (meanings_after known xs) ≡ length xs
 length_meanings known [] = refl
 length_meanings known (x ∷ xs) = let h = length_meanings (and_known known x) xs in omega arith
 
@@ -141,16 +151,16 @@ starts s none next known = record {
   known_are = refl;
 }
 
-module _ (before : List ModuleText) (x : ModuleText) (s : Linker) (h : HasLinked before s) where
-  named_before : names_of h.linked.known ≡ map name_of before
+module _ (before : List Text) (x : Text) (s : Linker) (h : HasLinked before s) where
+  named_before : names_of h.linked.known ≡ name_list before
   named_before =
       let H = (definitions (codes_in s.codes) []).value in
       sym (names_same H h.linked.known) ∙ sym (ap (λ (ms : List Known). names_of ms) h.known_are) ∙ names_known [] before
 
-  pub wants : (flags : List Bool) → flags ≡ are_among (imports_of x) (map name_of before) → flags ≡ are_among (imports_of x) (names_of h.linked.known)
+  pub wants : (flags : List Bool) → flags ≡ are_among (imports_of x) (name_list before) → flags ≡ are_among (imports_of x) (names_of h.linked.known)
   wants flags e = e ∙ ap (are_among (imports_of x)) (sym named_before)
 
-  module _ (flags : List Bool) (scope : ScopeOf) (are : flags ≡ are_among (imports_of x) (map name_of before)) (sees : Sees s.known.items flags s.codes.next scope) where
+  module _ (flags : List Bool) (scope : ScopeOf) (are : flags ≡ are_among (imports_of x) (name_list before)) (sees : Sees s.known.items flags s.codes.next scope) where
     H : Scope ℕ
     H = (definitions (codes_in s.codes) []).value
 
@@ -169,27 +179,27 @@ module _ (before : List ModuleText) (x : ModuleText) (s : Linker) (h : HasLinked
         (all_reversed (λ n. n.def < s.codes.next) (reverse scope.names) (subst (AreEarlier s.codes.next) (sym by_numbers) (reached_earlier s.codes.next h.linked.known (imports_of x) h.earlier))))
 
     spelt : Translated Word (Scope Word)
-    spelt = block x.bytes.items (defs_in x) (words H scope.names)
+    spelt = block x.bytes (defs_in x) (words H scope.names)
 
-    is_meaning : block x.bytes.items (defs_in x) (words (definitions (codes_in s.codes) []).value scope.names) ≡ meaning_of_next before x
-    is_meaning = ap (block x.bytes.items (defs_in x)) seen
+    is_meaning : block x.bytes (defs_in x) (words (definitions (codes_in s.codes) []).value scope.names) ≡ meaning_of_next before x
+    is_meaning = ap (block x.bytes (defs_in x)) seen
 
-    pub refused_next : (fault : ScopeFault) → IsFaultOf x.bytes.items scope.names (module_of x.module) fault → Refuses fault (meaning_of_next before x).refusal
+    pub refused_next : (fault : ScopeFault) → IsFaultOf x.bytes scope.names x.tree fault → Refuses fault (meaning_of_next before x).refusal
     refused_next fault is = subst (λ m. Refuses fault m.refusal) is_meaning (is (definitions (codes_in s.codes) []).value h.top)
 
-    module _ (codes : Codes) (new : Linker) (resolved : AreCodes x.bytes.items scope.names scope.next (module_of x.module) codes) (shaped : AreSpelt x.bytes.items scope.names (module_of x.module) codes) (kept : Keeps x flags codes s new) where
+    module _ (codes : Codes) (new : Linker) (resolved : AreCodes x.bytes scope.names scope.next x.tree codes) (shaped : AreSpelt x.bytes scope.names x.tree codes) (kept : Keeps x flags codes s new) where
       first : Translated ℕ (Scope ℕ)
       first = definitions (codes_in s.codes) []
 
       second : Translated ℕ (Scope ℕ)
       second = definitions (codes_in codes) (definitions (codes_in s.codes) []).value
 
-      holds : Holds scope.next (block x.bytes.items (defs_in x) (words (definitions (codes_in s.codes) []).value scope.names)) (definitions (codes_in codes) (definitions (codes_in s.codes) []).value)
+      holds : Holds scope.next (block x.bytes (defs_in x) (words (definitions (codes_in s.codes) []).value scope.names)) (definitions (codes_in codes) (definitions (codes_in s.codes) []).value)
       holds = resolved.holds (definitions (codes_in s.codes) []).value h.top
 
-      leaves : Leaves scope.names (bound_by x.bytes.items (codes_in codes)) scope.next
-          (length (block x.bytes.items (defs_in x) (words (definitions (codes_in s.codes) []).value scope.names)).stated)
-          (definitions (codes_in s.codes) []).value (block x.bytes.items (defs_in x) (words (definitions (codes_in s.codes) []).value scope.names)).value
+      leaves : Leaves scope.names (bound_by x.bytes (codes_in codes)) scope.next
+          (length (block x.bytes (defs_in x) (words (definitions (codes_in s.codes) []).value scope.names)).stated)
+          (definitions (codes_in s.codes) []).value (block x.bytes (defs_in x) (words (definitions (codes_in s.codes) []).value scope.names)).value
           (definitions (codes_in codes) (definitions (codes_in s.codes) []).value).value
       leaves = resolved.leaves (definitions (codes_in s.codes) []).value h.top
 
@@ -229,7 +239,7 @@ module _ (before : List ModuleText) (x : ModuleText) (s : Linker) (h : HasLinked
             ∙ sym judgements_more;
         known = numbered_as x (codes_in codes) ∷ h.linked.known;
         spelt = become_more [] before x (codes_in s.codes) (codes_in codes) (codes_in new.codes) h.linked.known kept.defs_are h.linked.spelt
-            (subst (λ ns. Become x.bytes.items (after_definition x.bytes.items) (definitions_of (module_of x.module)) (map named_of ns) (listed def_shape (codes_in codes))) by_numbers shaped);
+            (subst (λ ns. Become x.bytes (after_definition x.bytes) (definitions_of x.tree) (map named_of ns) (listed def_shape (codes_in codes))) by_numbers shaped);
         named = named_more (λ c. (out-CodeDef c).name) names_in (codes_in s.codes) (codes_in codes) (codes_in new.codes) before x kept.defs_are h.linked.named resolved.named;
         numbered =
             let together = length-append first.stated second.stated in
@@ -252,13 +262,13 @@ module _ (before : List ModuleText) (x : ModuleText) (s : Linker) (h : HasLinked
       unfolding spelt H
       here_is =
           let K = (definitions (codes_in codes) (definitions (codes_in s.codes) []).value).value in
-          let bound = bound_by x.bytes.items (codes_in codes) in
+          let bound = bound_by x.bytes (codes_in codes) in
           let value : (meaning_of_next before x).value ≡ words K bound ++ words K scope.names =
           sym (ap (λ m. m.value) is_meaning) ∙ leaves.named ∙ words_append K scope.names bound in
           let long : length (defs_in x) ≡ length (words K bound) =
           sym (length-map (defs_in x) (λ (d : Written). d.name)) ∙ sym (ap length resolved.named) ∙ length-map (codes_in codes) (λ c. (out-CodeDef c).name)
-          ∙ sym (length-map (codes_in codes) (bound_as x.bytes.items)) ∙ sym (length-reverse bound) ∙ sym (length-map (reverse bound) (entry K)) in
-          ap (λ ds. record { name = name_of x; imports = imports_of x; defs = ds })
+          ∙ sym (length-map (codes_in codes) (bound_as x.bytes)) ∙ sym (length-reverse bound) ∙ sym (length-map (reverse bound) (entry K)) in
+          ap (λ ds. record { name = x.name; imports = imports_of x; defs = ds })
           (ap (take (length (defs_in x))) value ∙ take_front (words K bound) (words K scope.names) (length (defs_in x)) long)
 
       pub links : HasLinked (before ++ x ∷ []) new
@@ -267,8 +277,8 @@ module _ (before : List ModuleText) (x : ModuleText) (s : Linker) (h : HasLinked
           let H = (definitions (codes_in s.codes) []).value in
           let K = (definitions (codes_in codes) (definitions (codes_in s.codes) []).value).value in
           let mine = codes_in codes in
-          let bound = bound_by x.bytes.items mine in
-          let next_new : new.codes.next ≡ scope.next + length (block x.bytes.items (defs_in x) (words (definitions (codes_in s.codes) []).value scope.names)).stated =
+          let bound = bound_by x.bytes mine in
+          let next_new : new.codes.next ≡ scope.next + length (block x.bytes (defs_in x) (words (definitions (codes_in s.codes) []).value scope.names)).stated =
           kept.next_is ∙ resolved.counted (definitions (codes_in s.codes) []).value h.top in
           let same : K ≡ (definitions (codes_in new.codes) []).value = sym (ap (λ m. m.value) all_is) in
           let below : AreEarlier new.codes.next (reverse bound) = all_reversed (λ n. n.def < new.codes.next) bound (subst (λ n. AreEarlier n bound) (sym next_new) leaves.below) in
@@ -300,46 +310,53 @@ stand_length [] (k ∷ ks) h = absurd h
 stand_length (m ∷ ms) [] h = absurd h
 stand_length (m ∷ ms) (k ∷ ks) h = let l = stand_length ms ks h.2 in omega arith
 
-known_length : (known : List Known) (xs : List ModuleText) → length (known_after known xs) ≡ length known + length xs
+known_length : (known : List Known) (xs : List Text) → length (known_after known xs) ≡ length known + length xs
 known_length known [] = omega arith
 known_length known (x ∷ xs) = let h = known_length (and_known known x) xs in omega arith
 
-pub kept_length : (before : List ModuleText) (s : Linker) (names : List (List ℕ)) → HasLinked before s → length (are_among names (map name_of before)) ≡ length s.known.items
+pub kept_length : (before : List Text) (s : Linker) (names : List (List ℕ)) → HasLinked before s → length (are_among names (name_list before)) ≡ length s.known.items
 kept_length before s names h =
     let H = (definitions (codes_in s.codes) []).value in
     let a = stand_length h.linked.known (reverse s.known.items) h.stand in
     let b : length h.linked.known ≡ length (known_after [] before) = sym (length-map h.linked.known (with_bodies H)) ∙ sym (ap length h.known_are) in
     let d = known_length [] before in
     let c = length-reverse s.known.items in
-    length-map (map name_of before) (λ x. list_any (bytes_eq x) names) ∙ length-map before name_of ∙ (omega arith)
+    length-map (name_list before) (λ x. list_any (bytes_eq x) names) ∙ length-map before (λ (x : Text). x.name) ∙ (omega arith)
 
 -- so many modules, and the next
 pub next_linked : (texts front : List ModuleText) (at : ℕ) (x : ModuleText) (s : Linker) → at < length texts → front ≡ take at texts → x ≡ get_or texts at x
-    → HasLinked (front ++ x ∷ []) s → HasLinked (take (at + 1) texts) s
+    → HasLinked (map text_of front ++ text_of x ∷ []) s → HasLinked (map text_of (take (at + 1) texts)) s
 next_linked texts front at x s l f e h =
     let more : suc at ≡ at + 1 = omega arith in
     subst (λ ts. HasLinked ts s)
-    (ap (λ b. b ++ x ∷ []) f ∙ ap (λ y. take at texts ++ y ∷ []) e ∙ sym (take_more texts at x l) ∙ ap (λ n. take n texts) more) h
+    (sym (map_push text_of front x)
+    ∙ ap (map text_of) (ap (λ b. b ++ x ∷ []) f ∙ ap (λ y. take at texts ++ y ∷ []) e ∙ sym (take_more texts at x l) ∙ ap (λ n. take n texts) more)) h
 
 -- the first that is refused
 
-take_meanings : (known : List Known) (xs : List ModuleText) (n : ℕ) → take n (meanings_after known xs) ≡ meanings_after known (take n xs)
+take_meanings : (known : List Known) (xs : List Text) (n : ℕ) → take n (meanings_after known xs) ≡ meanings_after known (take n xs)
 take_meanings known [] zero = refl
 take_meanings known [] (suc n) = refl
 take_meanings known (x ∷ xs) zero = refl
 take_meanings known (x ∷ xs) (suc n) = ap (λ ms. meaning_after known x ∷ ms) (take_meanings (and_known known x) xs n)
 
-meaning_at : (known : List Known) (xs : List ModuleText) (n : ℕ) (d : ModuleText) (e : Translated Word (Scope Word)) → n < length xs
+meaning_at : (known : List Known) (xs : List Text) (n : ℕ) (d : Text) (e : Translated Word (Scope Word)) → n < length xs
     → get_or (meanings_after known xs) n e ≡ meaning_after (known_after known (take n xs)) (get_or xs n d)
 meaning_at known [] n d e l = absurd (omega arith)
 meaning_at known (x ∷ xs) zero d e l = refl
 meaning_at known (x ∷ xs) (suc n) d e l = meaning_at (and_known known x) xs n d e (omega arith)
 
 pub refused_first : (texts before : List ModuleText) (at : ℕ) (s : Linker) (x : ModuleText) (fault : ScopeFault) → at < length texts → before ≡ take at texts → x ≡ get_or texts at x
-    → HasLinked (take at texts) s → Refuses fault (meaning_of_next before x).refusal → RefusedFirst texts at fault
-refused_first texts before at s x fault l front is h r = record {
-  within = l;
-  fine = subst AreFine (sym (take_meanings [] texts at)) h.linked.fine;
-  refuses = subst (λ m. Refuses fault m.refusal)
-      (ap (λ b. meaning_of_next b x) front ∙ ap (meaning_of_next (take at texts)) is ∙ sym (meaning_at [] texts at x (done []) l)) r;
-}
+    → HasLinked (map text_of (take at texts)) s → Refuses fault (meaning_of_next (map text_of before) (text_of x)).refusal → RefusedFirst (map text_of texts) at fault
+refused_first texts before at s x fault l front is h r =
+    let all = map text_of texts in
+    let firsts : take at all ≡ map text_of (take at texts) = take-map text_of at texts in
+    let inside : at < length all = subst (λ n. at < n) (sym (length-map texts text_of)) l in
+    let here : text_of x ≡ get_or all at (text_of x) = ap text_of is ∙ sym (get_or-map text_of texts at x (text_of x) l) in
+    record {
+      within = inside;
+      fine = subst AreFine (ap meanings (sym firsts) ∙ sym (take_meanings [] all at)) h.linked.fine;
+      refuses = subst (λ m. Refuses fault m.refusal)
+          (ap (λ b. meaning_of_next b (text_of x)) (ap (map text_of) front ∙ sym firsts) ∙ ap (meaning_of_next (take at all)) here
+          ∙ sym (meaning_at [] all at (text_of x) (done []) inside)) r;
+    }

@@ -1,7 +1,8 @@
 //! Modules, one after another.
 
-ghost use Rattle.std.specs.Prelude.{◌≡◌, ◌++◌, ◌∷◌, [], IfErr, IfOk, OnOk, take};
+ghost use Rattle.std.specs.Prelude.{◌≡◌, ◌++◌, ◌∷◌, [], IfErr, IfOk, OnOk, map, take};
 ghost use Rattle.translation.specs.Translated.{Refuses};
+ghost use Rattle.module_texts.specs.Texts.{text_of};
 ghost use Rattle.linking.specs.Modules.{RefusedFirst};
 ghost use Rattle.linking.specs.Linked.{HasLinked, IsLinked, Keeps, meaning_of_next};
 
@@ -44,7 +45,7 @@ impl Linker {
         imports: Vec<bool>,
         codes: Codes,
     ) -> Result<(), AllocError>
-        ensures { OnOk result (Keeps text.now imports.items codes self.old self.new) }
+        ensures { OnOk result (Keeps (text_of text.now) imports.items codes self.old self.new) }
     {
         let names = names_of(self.alloc, &text.bytes, codes.as_slice())?;
         self.known.push(Known { imports, names })?;
@@ -54,9 +55,11 @@ impl Linker {
 
     /// Resolves the module that comes after those.
     fn add(&mut self, before: &[ModuleText], text: &ModuleText) -> Result<(), ScopeFault>
-        requires { HasLinked before.now self.old }
-        ensures ok { OnOk result (HasLinked (before.now ++ text.now ∷ []) self.new) }
-        ensures err { IfErr result (λ f. Refuses f (meaning_of_next before.now text.now).refusal) }
+        requires { HasLinked (map text_of before.now) self.old }
+        ensures ok { let texts = map text_of before.now in
+            OnOk result (HasLinked (texts ++ text_of text.now ∷ []) self.new) }
+        ensures err { let texts = map text_of before.now in
+            IfErr result (λ f. Refuses f (meaning_of_next texts (text_of text.now)).refusal) }
     {
         let Ok(imports) = imports_among(self.alloc, before, text) else {
             return Err(ScopeFault::Memory);
@@ -80,8 +83,8 @@ impl Linker {
 /// # Errors
 /// The fault of the first module that has one.
 pub fn link(alloc: Global, texts: &[ModuleText]) -> Result<Codes, LinkFault>
-    ensures ok { IfOk result (IsLinked texts.now) }
-    ensures err { IfErr result (λ f. RefusedFirst texts.now f.module f.fault) }
+    ensures ok { IfOk result (IsLinked (map text_of texts.now)) }
+    ensures err { IfErr result (λ f. RefusedFirst (map text_of texts.now) f.module f.fault) }
 {
     let mut linker = Linker::new(alloc);
     for (module, text) in texts.iter().enumerate() {

@@ -2,7 +2,7 @@
 
 ghost use Rattle.std.specs.Prelude.{◌≡◌, ◌++◌, IfOk, OnOk, bytes_eq, length, map, string_bytes};
 ghost use Rattle.std.specs.List.{list_any};
-ghost use Rattle.module_texts.specs.Texts.{imports_of, name_of};
+ghost use Rattle.module_texts.specs.Texts.{imports_of, name_of, text_of};
 ghost use Rattle.linking.specs.Reaching.{Finds, Sees, are_among, either};
 
 use crate::known::Known;
@@ -12,7 +12,8 @@ use std::alloc::{AllocError, Global};
 
 /// The names of the modules that a module imports.
 fn import_names(alloc: Global, text: &ModuleText) -> Result<Vec<String>, AllocError>
-    ensures { IfOk result (λ names. map string_bytes names.items ≡ imports_of text.now) }
+    ensures { IfOk result (λ names.
+        map string_bytes names.items ≡ imports_of (text_of text.now)) }
 {
     let mut names = Vec::new(alloc);
     for span in text.module.imports.as_slice() {
@@ -40,7 +41,7 @@ pub(crate) fn imports_among(
     text: &ModuleText,
 ) -> Result<Vec<bool>, AllocError>
     ensures { IfOk result (λ flags.
-        flags.items ≡ are_among (imports_of text.now) (map name_of modules.now)) }
+        flags.items ≡ are_among (imports_of (text_of text.now)) (map name_of modules.now)) }
 {
     let names = import_names(alloc, text)?;
     let mut flags = Vec::new(alloc);

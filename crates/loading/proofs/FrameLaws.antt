@@ -3,39 +3,39 @@ use Rattle.std.proofs.Common.{◌≡◌, ◌<◌, ◌≤◌, ◌+◌, ◌-◌, �
 use Rattle.std.specs.Prelude.{reverse, slice_index_or, String, string_bytes, Result, Ok, Err, IfOk, IfErr}
 use Rattle.std.specs.declared.alloc.Global.{Global}
 use Rattle.std.specs.List.{Any, Contains}
-use Rattle.std.proofs.lemmas.List.{get_or-reverse, length-reverse, reverse-append, reverse-reverse, length-map}
+use Rattle.std.proofs.lemmas.List.{get_or-map, get_or-reverse, length-reverse, map_push, reverse-append, reverse-reverse, length-map}
 use Rattle.edge.specs.Files.{Held}
 use Rattle.module_texts.specs.declared.text.ModuleText.{ModuleText}
 use Rattle.loading.specs.declared.text.LoadFault.{LoadFault}
 use Rattle.loading.specs.declared.text.LoadFault.TheVariants as fault
 use Rattle.loading.specs.declared.begun.Begun.{Begun}
 use Rattle.loading.specs.Texts.{IsText, FailsAt}
-use Rattle.module_texts.specs.Texts.{name_of, imports_of, name_at}
+use Rattle.module_texts.specs.Texts.{Text, imports_of, name_at, text_of}
 use Rattle.loading.specs.Loading.{Loads, Refuses, none, known, anew, here, within, after_known, after_new, IsLoaded, IsAnother, IsNew, RefusesOne, most_modules}
-use Rattle.loading.specs.Frames.{begun_name, names_of, left_of, Passes}
+use Rattle.loading.specs.Frames.{begun_text, begun_name, names_of, left_of, Passes}
 
 -- the names of modules of which the innermost stands first
 abbrev pub inner_names : List Begun → List (List ℕ)
 inner_names = map begun_name
 
 -- with these modules loaded and these begun, the innermost first, these modules are loaded in the end
-abbrev pub Ends : Option Held → List ModuleText → List Begun → List ModuleText → Type 0
+abbrev pub Ends : Option Held → List Text → List Begun → List Text → Type 0
 Ends held loaded [] after = loaded ≡ after
 Ends held loaded (b ∷ bs) after =
-    (between : List ModuleText) × Loads held loaded (inner_names (b ∷ bs)) (left_of b) between
-    × Ends held (between ++ b.text ∷ []) bs after
+    (between : List Text) × Loads held loaded (inner_names (b ∷ bs)) (left_of b) between
+    × Ends held (between ++ begun_text b ∷ []) bs after
 
 -- and there this is the first refusal
-abbrev pub Stops : Option Held → List ModuleText → List Begun → LoadFault → Type 0
+abbrev pub Stops : Option Held → List Text → List Begun → LoadFault → Type 0
 Stops held loaded [] f = ⊥
 Stops held loaded (b ∷ bs) f =
     Refuses held loaded (inner_names (b ∷ bs)) (left_of b) f
-    ⊎ ((between : List ModuleText) × Loads held loaded (inner_names (b ∷ bs)) (left_of b) between
-    × Stops held (between ++ b.text ∷ []) bs f)
+    ⊎ ((between : List Text) × Loads held loaded (inner_names (b ∷ bs)) (left_of b) between
+    × Stops held (between ++ begun_text b ∷ []) bs f)
 
 -- the whole ends and is refused as what is left
-pub record Goes (held : Option Held) (name : List ℕ) (loaded : List ModuleText) (begun : List Begun) : Type 0 where
-  pub ends : (after : List ModuleText) → Ends held loaded begun after → Loads held [] [] (name ∷ []) after
+pub record Goes (held : Option Held) (name : List ℕ) (loaded : List Text) (begun : List Begun) : Type 0 where
+  pub ends : (after : List Text) → Ends held loaded begun after → Loads held [] [] (name ∷ []) after
   pub stops : (f : LoadFault) → Stops held loaded begun f → Refuses held [] [] (name ∷ []) f
 
 no_name : {X : Type 0} (x : X) → Contains [] x → ⊥
@@ -51,18 +51,18 @@ first_new : (name : List ℕ) → IsNew [] [] name
 first_new name = record { not_loaded = none_loaded name; another = another_first name }
 
 -- the first module was read
-pub goes-first : (held : Option Held) (name : List ℕ) (b : Begun) → IsText held name b.text → b.next ≡ 0 → Goes held name [] (b ∷ [])
+pub goes-first : (held : Option Held) (name : List ℕ) (b : Begun) → IsText held name (begun_text b) → b.next ≡ 0 → Goes held name [] (b ∷ [])
 goes-first held name b is first =
-    let all : left_of b ≡ imports_of b.text = ap (λ n. drop n (imports_of b.text)) first in
-    let L : List (List ℕ) → List (List ℕ) → List ModuleText → Type 0 = λ ns is m. Loads held [] ns is m in
+    let all : left_of b ≡ imports_of (begun_text b) = ap (λ n. drop n (imports_of (begun_text b))) first in
+    let L : List (List ℕ) → List (List ℕ) → List Text → Type 0 = λ ns is m. Loads held [] ns is m in
     record {
       ends = λ after e.
-          anew b.text (first_new name) is
-          (subst (λ ns. Loads held [] (ns ∷ []) (imports_of b.text) e.0) is.named (subst (λ is. Loads held [] (inner_names (b ∷ [])) is e.0) all e.1))
-          (subst (λ m. Loads held (e.0 ++ b.text ∷ []) [] [] m) e.2 none);
+          anew (begun_text b) (first_new name) is
+          (subst (λ ns. Loads held [] (ns ∷ []) (imports_of (begun_text b)) e.0) is.named (subst (λ is. Loads held [] (inner_names (b ∷ [])) is e.0) all e.1))
+          (subst (λ m. Loads held (e.0 ++ begun_text b ∷ []) [] [] m) e.2 none);
       stops = λ f s. ⊎_elim
-          (λ r. within b.text (first_new name) is
-          (subst (λ ns. Refuses held [] (ns ∷ []) (imports_of b.text) f) is.named (subst (λ is. Refuses held [] (inner_names (b ∷ [])) is f) all r)))
+          (λ r. within (begun_text b) (first_new name) is
+          (subst (λ ns. Refuses held [] (ns ∷ []) (imports_of (begun_text b)) f) is.named (subst (λ is. Refuses held [] (inner_names (b ∷ [])) is f) all r)))
           (λ e. absurd e.2) s;
     }
 
@@ -82,7 +82,7 @@ first-refused held name bs f empty r =
     here (none_loaded name) (subst (λ b. RefusesOne held 0 (names_of b) name f) empty r)
 
 -- all imports of the innermost are loaded
-pub goes-done : {held : Option Held} {name : List ℕ} {loaded : List ModuleText} {b : Begun} {bs : List Begun} → left_of b ≡ [] → Goes held name loaded (b ∷ bs) → Goes held name (loaded ++ b.text ∷ []) bs
+pub goes-done : {held : Option Held} {name : List ℕ} {loaded : List Text} {b : Begun} {bs : List Begun} → left_of b ≡ [] → Goes held name loaded (b ∷ bs) → Goes held name (loaded ++ begun_text b ∷ []) bs
 goes-done {held} {name} {loaded} {b} {bs} done g =
     let here : Loads held loaded (inner_names (b ∷ bs)) (left_of b) loaded = subst (λ is. Loads held loaded (inner_names (b ∷ bs)) is loaded) (sym done) none in
     record {
@@ -93,25 +93,25 @@ goes-done {held} {name} {loaded} {b} {bs} done g =
 -- of a module that was begun this import is passed
 pub record Passed (b b' : Begun) (n : List ℕ) : Type 0 where
   pub left : left_of b ≡ n ∷ left_of b'
-  pub text : b'.text ≡ b.text
+  pub text : begun_text b' ≡ begun_text b
 
 -- a module whose imports begin
-begins : {held : Option Held} {loaded : List ModuleText} (c : Begun) (bs : List Begun) (n : List ℕ) {m : List ModuleText} → IsText held n c.text → c.next ≡ 0 → Loads held loaded (inner_names (c ∷ bs)) (left_of c) m → Loads held loaded (n ∷ inner_names bs) (imports_of c.text) m
+begins : {held : Option Held} {loaded : List Text} (c : Begun) (bs : List Begun) (n : List ℕ) {m : List Text} → IsText held n (begun_text c) → c.next ≡ 0 → Loads held loaded (inner_names (c ∷ bs)) (left_of c) m → Loads held loaded (n ∷ inner_names bs) (imports_of (begun_text c)) m
 begins {held} {loaded} c bs n {m} is first l =
-    let all : left_of c ≡ imports_of c.text = ap (λ k. drop k (imports_of c.text)) first in
-    subst (λ k. Loads held loaded (k ∷ inner_names bs) (imports_of c.text) m) is.named (subst (λ is. Loads held loaded (inner_names (c ∷ bs)) is m) all l)
+    let all : left_of c ≡ imports_of (begun_text c) = ap (λ k. drop k (imports_of (begun_text c))) first in
+    subst (λ k. Loads held loaded (k ∷ inner_names bs) (imports_of (begun_text c)) m) is.named (subst (λ is. Loads held loaded (inner_names (c ∷ bs)) is m) all l)
 
-begins-refused : {held : Option Held} {loaded : List ModuleText} (c : Begun) (bs : List Begun) (n : List ℕ) {f : LoadFault} → IsText held n c.text → c.next ≡ 0 → Refuses held loaded (inner_names (c ∷ bs)) (left_of c) f → Refuses held loaded (n ∷ inner_names bs) (imports_of c.text) f
+begins-refused : {held : Option Held} {loaded : List Text} (c : Begun) (bs : List Begun) (n : List ℕ) {f : LoadFault} → IsText held n (begun_text c) → c.next ≡ 0 → Refuses held loaded (inner_names (c ∷ bs)) (left_of c) f → Refuses held loaded (n ∷ inner_names bs) (imports_of (begun_text c)) f
 begins-refused {held} {loaded} c bs n {f} is first r =
-    let all : left_of c ≡ imports_of c.text = ap (λ k. drop k (imports_of c.text)) first in
-    subst (λ k. Refuses held loaded (k ∷ inner_names bs) (imports_of c.text) f) is.named (subst (λ is. Refuses held loaded (inner_names (c ∷ bs)) is f) all r)
+    let all : left_of c ≡ imports_of (begun_text c) = ap (λ k. drop k (imports_of (begun_text c))) first in
+    subst (λ k. Refuses held loaded (k ∷ inner_names bs) (imports_of (begun_text c)) f) is.named (subst (λ is. Refuses held loaded (inner_names (c ∷ bs)) is f) all r)
 
-module _ {held : Option Held} {loaded : List ModuleText} {b b' : Begun} {n : List ℕ} (bs : List Begun) (p : Passed b b' n) where
-  back : {m : List ModuleText} → Loads held loaded (inner_names (b' ∷ bs)) (n ∷ left_of b') m → Loads held loaded (inner_names (b ∷ bs)) (left_of b) m
-  back {m} l = subst (λ is. Loads held loaded (inner_names (b ∷ bs)) is m) (sym p.left) (subst (λ ns. Loads held loaded ns (n ∷ left_of b') m) (ap (λ x. name_of x ∷ inner_names bs) p.text) l)
+module _ {held : Option Held} {loaded : List Text} {b b' : Begun} {n : List ℕ} (bs : List Begun) (p : Passed b b' n) where
+  back : {m : List Text} → Loads held loaded (inner_names (b' ∷ bs)) (n ∷ left_of b') m → Loads held loaded (inner_names (b ∷ bs)) (left_of b) m
+  back {m} l = subst (λ is. Loads held loaded (inner_names (b ∷ bs)) is m) (sym p.left) (subst (λ ns. Loads held loaded ns (n ∷ left_of b') m) (ap (λ x. x.name ∷ inner_names bs) p.text) l)
 
   back-refused : {f : LoadFault} → Refuses held loaded (inner_names (b' ∷ bs)) (n ∷ left_of b') f → Refuses held loaded (inner_names (b ∷ bs)) (left_of b) f
-  back-refused {f} r = subst (λ is. Refuses held loaded (inner_names (b ∷ bs)) is f) (sym p.left) (subst (λ ns. Refuses held loaded ns (n ∷ left_of b') f) (ap (λ x. name_of x ∷ inner_names bs) p.text) r)
+  back-refused {f} r = subst (λ is. Refuses held loaded (inner_names (b ∷ bs)) is f) (sym p.left) (subst (λ ns. Refuses held loaded ns (n ∷ left_of b') f) (ap (λ x. x.name ∷ inner_names bs) p.text) r)
 
   -- the import was loaded before
   pub goes-known : {name : List ℕ} → IsLoaded loaded n → Goes held name loaded (b ∷ bs) → Goes held name loaded (b' ∷ bs)
@@ -127,19 +127,30 @@ module _ {held : Option Held} {loaded : List ModuleText} {b b' : Begun} {n : Lis
   stops-here {name} {f} not r g = g.stops f (inl (back-refused (here not r)))
 
   -- the import was read, and begins
-  pub goes-new : {name : List ℕ} (c : Begun) → (IsLoaded loaded n → ⊥) → IsAnother (length loaded) (inner_names (b' ∷ bs)) n → IsText held n c.text → c.next ≡ 0 → Goes held name loaded (b ∷ bs) → Goes held name loaded (c ∷ b' ∷ bs)
+  pub goes-new : {name : List ℕ} (c : Begun) → (IsLoaded loaded n → ⊥) → IsAnother (length loaded) (inner_names (b' ∷ bs)) n → IsText held n (begun_text c) → c.next ≡ 0 → Goes held name loaded (b ∷ bs) → Goes held name loaded (c ∷ b' ∷ bs)
   goes-new {name} c not another is first g =
       let new : IsNew loaded (inner_names (b' ∷ bs)) n = record { not_loaded = not; another = another } in
       record {
         ends = λ after e.
-            g.ends after (e.2.0, back (anew c.text new is (begins c (b' ∷ bs) n is first e.1) e.2.1), subst (λ x. Ends held (e.2.0 ++ x ∷ []) bs after) p.text e.2.2);
+            g.ends after (e.2.0, back (anew (begun_text c) new is (begins c (b' ∷ bs) n is first e.1) e.2.1), subst (λ x. Ends held (e.2.0 ++ x ∷ []) bs after) p.text e.2.2);
         stops = λ f s. g.stops f (⊎_elim
-            (λ r. inl (back-refused (within c.text new is (begins-refused c (b' ∷ bs) n is first r))))
+            (λ r. inl (back-refused (within (begun_text c) new is (begins-refused c (b' ∷ bs) n is first r))))
             (λ e. ⊎_elim
-            (λ r. inl (back-refused (after_new c.text new is (begins c (b' ∷ bs) n is first e.1) r)))
-            (λ d. inr (d.0, back (anew c.text new is (begins c (b' ∷ bs) n is first e.1) d.1), subst (λ x. Stops held (d.0 ++ x ∷ []) bs f) p.text d.2))
+            (λ r. inl (back-refused (after_new (begun_text c) new is (begins c (b' ∷ bs) n is first e.1) r)))
+            (λ d. inr (d.0, back (anew (begun_text c) new is (begins c (b' ∷ bs) n is first e.1) d.1), subst (λ x. Stops held (d.0 ++ x ∷ []) bs f) p.text d.2))
             e.2) s);
       }
+
+-- what holds of one of a list, and of what one of it is seen as
+
+pub any-map : {X Y : Type 0} (f : X → Y) (P : Y → Type 0) (xs : List X) → Any (λ x. P (f x)) xs → Any P (map f xs)
+any-map f P xs (k, x, lt, at, is) = (k, f x, subst (λ n. k < n) (sym (length-map xs f)) lt, get_or-map f xs k x (f x) lt ∙ ap f at, is)
+
+pub any-from_map : {X Y : Type 0} (f : X → Y) (P : Y → Type 0) (xs : List X) → Any P (map f xs) → Any (λ x. P (f x)) xs
+any-from_map f P [] a = absurd (omega (arith, a.2))
+any-from_map f P (x ∷ xs) (zero, y, lt, at, is) = (zero, x, omega arith, refl, subst P (sym at) is)
+any-from_map f P (x ∷ xs) (suc k, y, lt, at, is) =
+    let a = any-from_map f P xs (k, y, omega arith, at, is) in (suc a.0, a.1, omega (arith, a.2), a.3, a.4)
 
 -- a list and the same backwards have the same names
 contains-reverse : {X : Type 0} (xs : List X) (x : X) → Contains xs x → Contains (reverse xs) x
@@ -201,11 +212,11 @@ less-new n u v w lt few =
     omega (arith, times, few)
 
 -- the loop begins with the first module
-pub goes-start : (held : Option Held) (name : List ℕ) (b : Begun) (old items : List Begun) (loaded : List ModuleText) → loaded ≡ [] → old ≡ [] → items ≡ old ++ b ∷ [] → IsText held name b.text → b.next ≡ 0 → Goes held name loaded (reverse items)
+pub goes-start : (held : Option Held) (name : List ℕ) (b : Begun) (old items : List Begun) (loaded : List ModuleText) → loaded ≡ [] → old ≡ [] → items ≡ old ++ b ∷ [] → IsText held name (begun_text b) → b.next ≡ 0 → Goes held name (map text_of loaded) (reverse items)
 goes-start held name b old items loaded unloaded empty is text next =
     let one : items ≡ b ∷ [] = is ∙ ap (λ bs. bs ++ b ∷ []) empty in
     let g = goes-first held name b text next in
-    subst (λ l. Goes held name l (reverse items)) (sym unloaded) (subst (λ bs. Goes held name [] (reverse bs)) (sym one) g)
+    subst (λ l. Goes held name (map text_of l) (reverse items)) (sym unloaded) (subst (λ bs. Goes held name [] (reverse bs)) (sym one) g)
 
 last-first : {X : Type 0} (items rest : List X) (x : X) → items ≡ rest ++ x ∷ [] → reverse items ≡ x ∷ reverse rest
 last-first items rest x is = ap reverse is ∙ reverse-append rest (x ∷ [])
@@ -214,42 +225,45 @@ one-more : {X : Type 0} (items rest : List X) (x : X) → items ≡ rest ++ x �
 one-more items rest x is = ap length is ∙ length-append rest (x ∷ [])
 
 -- the innermost has no import left
-pub turn-done : {held : Option Held} {name : List ℕ} {loaded : List ModuleText} (after : List ModuleText) (items rest : List Begun) (b b' : Begun) (o : Option (String Global)) → items ≡ rest ++ b ∷ [] → Passes b b' o → o ≡ None → after ≡ loaded ++ b'.text ∷ [] → Goes held name loaded (reverse items) → Goes held name after (reverse rest)
-turn-done {held} {name} {loaded} after items rest b b' o popped passes no_import is g =
+pub turn-done : {held : Option Held} {name : List ℕ} (loaded after : List ModuleText) (items rest : List Begun) (b b' : Begun) (o : Option (String Global)) → items ≡ rest ++ b ∷ [] → Passes b b' o → o ≡ None → after ≡ loaded ++ b'.text ∷ [] → Goes held name (map text_of loaded) (reverse items) → Goes held name (map text_of after) (reverse rest)
+turn-done {held} {name} loaded after items rest b b' o popped passes no_import is g =
     let p = subst (Passes b b') no_import passes in
-    let here = goes-done p.0 (subst (Goes held name loaded) (last-first items rest b popped) g) in
-    subst (λ l. Goes held name l (reverse rest)) (ap (λ x. loaded ++ x.text ∷ []) (sym p.1) ∙ sym is) here
+    let here = goes-done p.0 (subst (Goes held name (map text_of loaded)) (last-first items rest b popped) g) in
+    subst (λ l. Goes held name l (reverse rest)) (ap (λ x. map text_of loaded ++ begun_text x ∷ []) (sym p.1) ∙ sym (ap (map text_of) is ∙ map_push text_of loaded b'.text)) here
 
 pub turn-count : (loaded after : List ModuleText) (items rest : List Begun) (b b' : Begun) → items ≡ rest ++ b ∷ [] → after ≡ loaded ++ b'.text ∷ [] → length after + length rest ≡ length loaded + length items
 turn-count loaded after items rest b b' popped is = omega (arith, one-more items rest b popped, one-more after loaded b'.text is)
 
 -- the innermost has an import
-module _ {held : Option Held} {name : List ℕ} {loaded : List ModuleText} (items rest new : List Begun) (b b' : Begun) (o : Option (String Global)) (import : String Global) (n : List ℕ) (named : n ≡ string_bytes import) (popped : items ≡ rest ++ b ∷ []) (passes : Passes b b' o) (some : o ≡ Some import) (pushed : new ≡ rest ++ b' ∷ []) (g : Goes held name loaded (reverse items)) where
+module _ {held : Option Held} {name : List ℕ} (loaded : List ModuleText) (items rest new : List Begun) (b b' : Begun) (o : Option (String Global)) (import : String Global) (n : List ℕ) (named : n ≡ string_bytes import) (popped : items ≡ rest ++ b ∷ []) (passes : Passes b b' o) (some : o ≡ Some import) (pushed : new ≡ rest ++ b' ∷ []) (g : Goes held name (map text_of loaded) (reverse items)) where
   passed : Passed b b' n
-  passed = let p = subst (Passes b b') some passes in record { left = p.0 ∙ ap (λ k. k ∷ left_of b') (sym named); text = p.1 }
+  passed = let p = subst (Passes b b') some passes in record { left = p.0 ∙ ap (λ k. k ∷ left_of b') (sym named); text = ap text_of p.1 }
 
-  before : Goes held name loaded (b ∷ reverse rest)
-  before = subst (Goes held name loaded) (last-first items rest b popped) g
+  before : Goes held name (map text_of loaded) (b ∷ reverse rest)
+  before = subst (Goes held name (map text_of loaded)) (last-first items rest b popped) g
 
   order : reverse new ≡ b' ∷ reverse rest
   order = last-first new rest b' pushed
 
-  pub turn-known : IsLoaded loaded n → Goes held name loaded (reverse new)
-  turn-known k = subst (Goes held name loaded) (sym order) (goes-known (reverse rest) passed k before)
+  count : length loaded ≡ length (map text_of loaded)
+  count = sym (length-map loaded text_of)
 
-  pub turn-refused : (f : LoadFault) → (IsLoaded loaded n → ⊥) → RefusesOne held (length loaded) (names_of new) n f → Refuses held [] [] (name ∷ []) f
-  turn-refused f not r = stops-here (reverse rest) passed not (subst (λ bs. RefusesOne held (length loaded) (inner_names bs) n f) order r) before
+  pub turn-known : IsLoaded (map text_of loaded) n → Goes held name (map text_of loaded) (reverse new)
+  turn-known k = subst (Goes held name (map text_of loaded)) (sym order) (goes-known (reverse rest) passed k before)
 
-  pub turn-new : (c : Begun) (longer : List Begun) → longer ≡ new ++ c ∷ [] → (IsLoaded loaded n → ⊥) → IsAnother (length loaded) (names_of new) n → IsText held n c.text → c.next ≡ 0 → Goes held name loaded (reverse longer)
+  pub turn-refused : (f : LoadFault) → (IsLoaded (map text_of loaded) n → ⊥) → RefusesOne held (length loaded) (names_of new) n f → Refuses held [] [] (name ∷ []) f
+  turn-refused f not r = stops-here (reverse rest) passed not (subst (λ k. RefusesOne held k (inner_names (b' ∷ reverse rest)) n f) count (subst (λ bs. RefusesOne held (length loaded) (inner_names bs) n f) order r)) before
+
+  pub turn-new : (c : Begun) (longer : List Begun) → longer ≡ new ++ c ∷ [] → (IsLoaded (map text_of loaded) n → ⊥) → IsAnother (length loaded) (names_of new) n → IsText held n (begun_text c) → c.next ≡ 0 → Goes held name (map text_of loaded) (reverse longer)
   turn-new c longer is not another text next =
-      let there = subst (λ bs. IsAnother (length loaded) (inner_names bs) n) order another in
+      let there = subst (λ k. IsAnother k (inner_names (b' ∷ reverse rest)) n) count (subst (λ bs. IsAnother (length loaded) (inner_names bs) n) order another) in
       let whole : reverse longer ≡ c ∷ b' ∷ reverse rest = last-first longer new c is ∙ ap (λ bs. c ∷ bs) order in
-      subst (Goes held name loaded) (sym whole) (goes-new (reverse rest) passed c not there text next before)
+      subst (Goes held name (map text_of loaded)) (sym whole) (goes-new (reverse rest) passed c not there text next before)
 
   pub turn-less : (c : Begun) (longer : List Begun) → longer ≡ new ++ c ∷ [] → IsAnother (length loaded) (names_of new) n → c.next ≡ 0 → length c.text.module.imports < 2 ^ 64 → measure (length loaded + length longer) (reverse longer) < measure (length loaded + length items) (reverse items)
   turn-less c longer is another next few =
       let done = length loaded + length rest in
-      let all : length (left_of c) ≡ length c.text.module.imports = ap (λ k. length (drop k (imports_of c.text))) next ∙ length-map c.text.module.imports (name_at c.text.bytes.items) in
+      let all : length (left_of c) ≡ length c.text.module.imports = ap (λ k. length (drop k (imports_of (begun_text c)))) next ∙ length-map c.text.module.imports (name_at c.text.bytes.items) in
       let whole : reverse longer ≡ c ∷ b' ∷ reverse rest = last-first longer new c is ∙ ap (λ bs. c ∷ bs) order in
       let w : weights (reverse longer) ≡ suc (length (left_of c)) + (suc (length (left_of b')) + weights (reverse rest)) = ap weights whole in
       let v : weights (reverse items) ≡ suc (length (left_of b)) + weights (reverse rest) = ap weights (last-first items rest b popped) in

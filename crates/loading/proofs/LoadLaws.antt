@@ -1,37 +1,24 @@
 -- What is told is loaded in one way.
-use Rattle.std.proofs.Common.{◌≡◌, ◌<◌, ◌≤◌, ◌+◌, ℕ, zero, suc, List, [], ◌∷◌, ◌++◌, map, length, get_or, refl, sym, ◌∙◌, ap, subst, arith, None, Some, Ok, Err}
+use Rattle.std.proofs.Common.{◌≡◌, ◌≤◌, ◌+◌, ℕ, List, [], ◌∷◌, ◌++◌, length, refl, sym, ◌∙◌, ap, ap₂, subst, arith, None, Some, Ok, Err}
 use Rattle.std.specs.Prelude.{String, string_bytes}
 use Rattle.std.specs.declared.alloc.Global.{Global}
 use Rattle.std.specs.List.{Contains}
 use Rattle.edge.specs.Files.{Held, HoldsAt}
 use Rattle.layout_lexer.specs.declared.token.Token.{Token}
-use Rattle.layout_lexer.specs.declared.token.Span.{Span}
 use Rattle.layout_lexer.specs.declared.fault.LexFault.{LexFault}
 use Rattle.layout_lexer.specs.Texts.{tokens_of}
-use Rattle.syntax.specs.Tree.{Tree, Module}
-use Rattle.syntax.specs.View.{module_of}
+use Rattle.syntax.specs.Tree.{Tree}
 use Rattle.productions.specs.Words.{pieces}
 use Rattle.productions.specs.Grammar.{IsModule}
 use Rattle.grammar.specs.Faults.{IsRead, IsFault}
-use Rattle.module_texts.specs.declared.text.ModuleText.{ModuleText}
 use Rattle.loading.specs.Texts.{IsText, ReadsAs}
-use Rattle.module_texts.specs.Texts.{name_of, imports_of, name_at, path_of}
+use Rattle.module_texts.specs.Texts.{Text, imports_of, path_of}
 use Rattle.loading.specs.declared.text.LoadFault.{LoadFault}
 use Rattle.loading.specs.declared.text.LoadFault.TheVariants as fault
 use Rattle.loading.specs.Texts.{FailsAt}
-use Rattle.loading.specs.Loading.{Loads, none, known, anew, Refuses, here, within, after_known, after_new, IsLoaded, IsAnother, IsNew, RefusesOne, most_modules}
-use Rattle.loading.specs.Same.{SameText, SameTexts, SameFault, IsDecided}
+use Rattle.loading.specs.Loading.{Loads, none, known, anew, Refuses, here, within, after_known, after_new, IsAnother, IsNew, RefusesOne, most_modules}
+use Rattle.loading.specs.Same.{SameFault, IsDecided}
 use Rattle.loading.proofs.ReadLaws.{fault_one, read_or_fault}
-
--- the imports that a module's tree spells
-spans_in : Tree → List Span
-spans_in (Module name imports defs) = imports
-spans_in _ = []
-
-pub same_imports : (x y : ModuleText) → SameText x y → imports_of x ≡ imports_of y
-unfolding spans_in
-same_imports x y s =
-    ap (map (name_at x.bytes.items)) (ap spans_in s.tree) ∙ ap (λ bytes. map (name_at bytes) y.module.imports) s.bytes
 
 same_bytes : (held : Held) (path : List ℕ) (xs ys : List ℕ) → HoldsAt (Some held) path (Some xs) → HoldsAt (Some held) path (Some ys) → xs ≡ ys
 same_bytes held path xs ys a b = cc
@@ -41,64 +28,28 @@ same_read bytes other m n e a b =
     let tokens : a.tokens ≡ b.tokens = let p = a.spelled in let q = b.spelled in let r = ap tokens_of e in cc in
     b.read.only m a.read.past (subst (λ ts. IsModule (pieces ts) m a.read.past) tokens a.read.is)
 
-same_text : (held : Held) (name : List ℕ) (x y : ModuleText) → IsText (Some held) name x → IsText (Some held) name y → SameText x y
+text : List ℕ → List ℕ → Tree → Text
+text name bytes tree = record { name = name; bytes = bytes; tree = tree }
+
+same_text : (held : Held) (name : List ℕ) (x y : Text) → IsText (Some held) name x → IsText (Some held) name y → x ≡ y
+unfolding text
 same_text held name x y a b =
-    let bytes = same_bytes held (path_of name) x.bytes.items y.bytes.items a.holds b.holds in
-    record { named = a.named ∙ sym b.named; bytes = bytes; tree = same_read x.bytes.items y.bytes.items (module_of x.module) (module_of y.module) bytes a.reads b.reads }
-
--- lists of modules
-
-pub same_length : (xs ys : List ModuleText) → SameTexts xs ys → length xs ≡ length ys
-same_length [] [] s = refl
-same_length [] (y ∷ ys) s = absurd s
-same_length (x ∷ xs) [] s = absurd s
-same_length (x ∷ xs) (y ∷ ys) s = let h = same_length xs ys s.1 in omega arith
-
-same_append : (xs ys zs ws : List ModuleText) → SameTexts xs ys → SameTexts zs ws → SameTexts (xs ++ zs) (ys ++ ws)
-same_append [] [] zs ws s t = t
-same_append [] (y ∷ ys) zs ws s t = absurd s
-same_append (x ∷ xs) [] zs ws s t = absurd s
-same_append (x ∷ xs) (y ∷ ys) zs ws s t = (s.0, same_append xs ys zs ws s.1 t)
-
-flipped : (xs ys : List ModuleText) → SameTexts xs ys → SameTexts ys xs
-flipped [] [] s = tt
-flipped [] (y ∷ ys) s = absurd s
-flipped (x ∷ xs) [] s = absurd s
-flipped (x ∷ xs) (y ∷ ys) s =
-    (record { named = sym s.0.named; bytes = sym s.0.bytes; tree = sym s.0.tree }, flipped xs ys s.1)
-
-pub same_at : (xs ys : List ModuleText) (i : ℕ) (d e : ModuleText) → SameTexts xs ys → i < length xs → name_of (get_or xs i d) ≡ name_of (get_or ys i e)
-same_at [] ys i d e s l = absurd (omega arith)
-same_at (x ∷ xs) [] i d e s l = absurd s
-same_at (x ∷ xs) (y ∷ ys) zero d e s l = s.0.named
-same_at (x ∷ xs) (y ∷ ys) (suc i) d e s l = same_at xs ys i d e s.1 (omega arith)
-
-default_at : (xs : List ModuleText) (i : ℕ) (d e : ModuleText) → i < length xs → get_or xs i d ≡ get_or xs i e
-default_at [] i d e l = absurd (omega arith)
-default_at (x ∷ xs) zero d e l = refl
-default_at (x ∷ xs) (suc i) d e l = default_at xs i d e (omega arith)
-
-still_loaded : (xs ys : List ModuleText) (name : List ℕ) → SameTexts xs ys → IsLoaded xs name → IsLoaded ys name
-still_loaded xs ys name s a =
-    let y = get_or ys a.0 a.1 in
-    let l = a.2 in
-    let n = same_length xs ys s in
-    let inside : a.0 < length ys = omega arith in
-    (a.0, y, inside, default_at ys a.0 y a.1 inside, sym (same_at xs ys a.0 a.1 a.1 s a.2) ∙ ap name_of a.3 ∙ a.4)
+    let bytes = same_bytes held (path_of name) x.bytes y.bytes a.holds b.holds in
+    let tree = same_read x.bytes y.bytes x.tree y.tree bytes a.reads b.reads in
+    ap (λ n. text n x.bytes x.tree) (a.named ∙ sym b.named) ∙ (ap (λ b. text y.name b x.tree) bytes ∙ ap (text y.name y.bytes) tree)
 
 -- In the same state the same is loaded.
-pub loads_one : (held : Held) (xs ys : List ModuleText) (begun names : List (List ℕ)) (all other : List ModuleText)
-    → SameTexts xs ys → Loads (Some held) xs begun names all → Loads (Some held) ys begun names other → SameTexts all other
-loads_one held xs ys begun [] _ _ s none none = s
-loads_one held xs ys begun (name ∷ names) all other s (known a rest) (known b more) = loads_one held xs ys begun names all other s rest more
-loads_one held xs ys begun (name ∷ names) all other s (known a rest) (anew y new is inner more) = absurd (new.not_loaded (still_loaded xs ys name s a))
-loads_one held xs ys begun (name ∷ names) all other s (anew x new is inner rest) (known b more) = absurd (new.not_loaded (still_loaded ys xs name (flipped xs ys s) b))
-loads_one held xs ys begun (name ∷ names) all other s (anew {between = between} x new is inner rest) (anew {between = others} y new' is' inner' more) =
+pub loads_one : (held : Held) (loaded : List Text) (begun names : List (List ℕ)) (xs ys : List Text)
+    → Loads (Some held) loaded begun names xs → Loads (Some held) loaded begun names ys → xs ≡ ys
+loads_one held loaded begun [] _ _ none none = refl
+loads_one held loaded begun (name ∷ names) xs ys (known a rest) (known b more) = loads_one held loaded begun names xs ys rest more
+loads_one held loaded begun (name ∷ names) xs ys (known a rest) (anew y new is inner more) = absurd (new.not_loaded a)
+loads_one held loaded begun (name ∷ names) xs ys (anew x new is inner rest) (known b more) = absurd (new.not_loaded b)
+loads_one held loaded begun (name ∷ names) xs ys (anew {between = between} x new is inner rest) (anew {between = others} y new' is' inner' more) =
     let same = same_text held name x y is is' in
-    let imports = same_imports x y same in
-    let between_same = loads_one held xs ys (name ∷ begun) (imports_of x) between others s inner
-    (subst (λ ns. Loads (Some held) ys (name ∷ begun) ns others) (sym imports) inner') in
-    loads_one held (between ++ x ∷ []) (others ++ y ∷ []) begun names all other (same_append between others (x ∷ []) (y ∷ []) between_same (same, tt)) rest more
+    let between_same = loads_one held loaded (name ∷ begun) (imports_of x) between others inner
+    (subst (λ z. Loads (Some held) loaded (name ∷ begun) (imports_of z) others) (sym same) inner') in
+    loads_one held (between ++ x ∷ []) begun names xs ys rest (subst (λ ts. Loads (Some held) ts begun names ys) (sym (ap₂ (λ ts z. ts ++ z ∷ []) between_same same)) more)
 
 -- what a path holds
 
@@ -115,16 +66,16 @@ one_lex : (bytes other : List ℕ) (f g : LexFault) → bytes ≡ other → toke
 one_lex bytes other f g e a b = let r = ap tokens_of e in cc
 
 -- A module that is read has no fault.
-text_or_fault : (held : Held) (name : List ℕ) (x : ModuleText) (f : LoadFault) → IsText (Some held) name x → FailsAt (Some held) name f → IsDecided f → ⊥
-text_or_fault held name x (fault.Missing path) is f d = held_or_not held (path_of name) x.bytes.items is.holds f.1
+text_or_fault : (held : Held) (name : List ℕ) (x : Text) (f : LoadFault) → IsText (Some held) name x → FailsAt (Some held) name f → IsDecided f → ⊥
+text_or_fault held name x (fault.Missing path) is f d = held_or_not held (path_of name) x.bytes is.holds f.1
 text_or_fault held name x fault.Unreadable is f d = d
 text_or_fault held name x (fault.NoTokens g path) is f d =
-    tokens_or_fault x.bytes.items f.0 is.reads.tokens g (same_bytes held (path_of name) x.bytes.items f.0 is.holds f.1) is.reads.spelled f.2.1.fails
+    tokens_or_fault x.bytes f.0 is.reads.tokens g (same_bytes held (path_of name) x.bytes f.0 is.holds f.1) is.reads.spelled f.2.1.fails
 text_or_fault held name x (fault.NoModule g path) is f d =
     let r = is.reads in
     let n = f.2.1 in
-    let tokens = one_list x.bytes.items f.0 r.tokens n.tokens (same_bytes held (path_of name) x.bytes.items f.0 is.holds f.1) r.spelled n.spelled in
-    read_or_fault IsModule (length f.0) (pieces n.tokens) (module_of x.module) g (subst (λ ts. IsRead IsModule (pieces ts) (module_of x.module)) tokens r.read) n.fails n.known
+    let tokens = one_list x.bytes f.0 r.tokens n.tokens (same_bytes held (path_of name) x.bytes f.0 is.holds f.1) r.spelled n.spelled in
+    read_or_fault IsModule (length f.0) (pieces n.tokens) x.tree g (subst (λ ts. IsRead IsModule (pieces ts) x.tree) tokens r.read) n.fails n.known
 text_or_fault held name x (fault.Cycle path) is f d = f.2
 text_or_fault held name x (fault.TooMany path) is f d = f.2
 text_or_fault held name x fault.Memory is f d = d
@@ -194,69 +145,61 @@ why_one held loaded begun name f _ (fails f' a b) (many q e' n' m') k l = let le
 why_one held loaded begun name f g (fails f' a b) (fails g' a' b') k l = fails_one held name f g b b' k l
 
 -- One that is refused before its imports is not read where it is new.
-why_not : (held : Held) (loaded : ℕ) (begun : List (List ℕ)) (name : List ℕ) (x : ModuleText) (f : LoadFault) → Why held loaded begun name f → IsAnother loaded begun name → IsText (Some held) name x → IsDecided f → ⊥
+why_not : (held : Held) (loaded : ℕ) (begun : List (List ℕ)) (name : List ℕ) (x : Text) (f : LoadFault) → Why held loaded begun name f → IsAnother loaded begun name → IsText (Some held) name x → IsDecided f → ⊥
 why_not held loaded begun name x _ (circle p e c) new is k = new.0 c
 why_not held loaded begun name x _ (many p e n m) new is k = let less = new.1 in omega arith
 why_not held loaded begun name x f (fails f' a b) new is k = text_or_fault held name x f is b k
 
--- in the same state
-one_refusal : (held : Held) (xs ys : List ModuleText) (begun : List (List ℕ)) (name : List ℕ) (f g : LoadFault) → SameTexts xs ys → RefusesOne (Some held) (length xs) begun name f → RefusesOne (Some held) (length ys) begun name g → IsDecided f → IsDecided g → SameFault f g
-one_refusal held xs ys begun name f g s a b k l =
-    why_one held (length xs) begun name f g (why held (length xs) begun name f a)
-    (why held (length xs) begun name g (subst (λ n. RefusesOne (Some held) n begun name g) (sym (same_length xs ys s)) b)) k l
-
-refused_or_read : (held : Held) (xs ys : List ModuleText) (begun : List (List ℕ)) (name : List ℕ) (x : ModuleText) (f : LoadFault) → SameTexts xs ys → RefusesOne (Some held) (length ys) begun name f → IsNew xs begun name → IsText (Some held) name x → IsDecided f → ⊥
-refused_or_read held xs ys begun name x f s r new is k =
-    why_not held (length xs) begun name x f (why held (length xs) begun name f (subst (λ n. RefusesOne (Some held) n begun name f) (sym (same_length xs ys s)) r)) new.another is k
+refused_or_read : (held : Held) (loaded : List Text) (begun : List (List ℕ)) (name : List ℕ) (x : Text) (f : LoadFault) → RefusesOne (Some held) (length loaded) begun name f → IsNew loaded begun name → IsText (Some held) name x → IsDecided f → ⊥
+refused_or_read held loaded begun name x f r new is k = why_not held (length loaded) begun name x f (why held (length loaded) begun name f r) new.another is k
 
 -- In the same state no list is loaded where there is a refusal.
-pub not_both : (held : Held) (xs ys : List ModuleText) (begun names : List (List ℕ)) (all : List ModuleText) (f : LoadFault)
-    → SameTexts xs ys → Loads (Some held) xs begun names all → Refuses (Some held) ys begun names f → IsDecided f → ⊥
-not_both held xs ys begun [] all f s a b k = elim b [ ]
-not_both held xs ys begun (name ∷ names) all f s (known a rest) (here not r) k = not (still_loaded xs ys name s a)
-not_both held xs ys begun (name ∷ names) all f s (known a rest) (within y new is inner) k = new.not_loaded (still_loaded xs ys name s a)
-not_both held xs ys begun (name ∷ names) all f s (known a rest) (after_known b more) k = not_both held xs ys begun names all f s rest more k
-not_both held xs ys begun (name ∷ names) all f s (known a rest) (after_new y new is inner more) k = new.not_loaded (still_loaded xs ys name s a)
-not_both held xs ys begun (name ∷ names) all f s (anew x new is inner rest) (here not r) k = refused_or_read held xs ys begun name x f s r new is k
-not_both held xs ys begun (name ∷ names) all f s (anew {between = between} x new is inner rest) (within y new' is' inner') k =
-    let imports = same_imports x y (same_text held name x y is is') in
-    not_both held xs ys (name ∷ begun) (imports_of x) between f s inner (subst (λ ns. Refuses (Some held) ys (name ∷ begun) ns f) (sym imports) inner') k
-not_both held xs ys begun (name ∷ names) all f s (anew x new is inner rest) (after_known b more) k = new.not_loaded (still_loaded ys xs name (flipped xs ys s) b)
-not_both held xs ys begun (name ∷ names) all f s (anew {between = between} x new is inner rest) (after_new {between = others} y new' is' inner' more) k =
+pub not_both : (held : Held) (loaded : List Text) (begun names : List (List ℕ)) (xs : List Text) (f : LoadFault)
+    → Loads (Some held) loaded begun names xs → Refuses (Some held) loaded begun names f → IsDecided f → ⊥
+not_both held loaded begun [] xs f a b k = elim b [ ]
+not_both held loaded begun (name ∷ names) xs f (known a rest) (here not r) k = not a
+not_both held loaded begun (name ∷ names) xs f (known a rest) (within y new is inner) k = new.not_loaded a
+not_both held loaded begun (name ∷ names) xs f (known a rest) (after_known b more) k = not_both held loaded begun names xs f rest more k
+not_both held loaded begun (name ∷ names) xs f (known a rest) (after_new y new is inner more) k = new.not_loaded a
+not_both held loaded begun (name ∷ names) xs f (anew x new is inner rest) (here not r) k = refused_or_read held loaded begun name x f r new is k
+not_both held loaded begun (name ∷ names) xs f (anew {between = between} x new is inner rest) (within y new' is' inner') k =
     let same = same_text held name x y is is' in
-    let imports = same_imports x y same in
-    let between_same = loads_one held xs ys (name ∷ begun) (imports_of x) between others s inner
-    (subst (λ ns. Loads (Some held) ys (name ∷ begun) ns others) (sym imports) inner') in
-    not_both held (between ++ x ∷ []) (others ++ y ∷ []) begun names all f (same_append between others (x ∷ []) (y ∷ []) between_same (same, tt)) rest more k
+    not_both held loaded (name ∷ begun) (imports_of x) between f inner (subst (λ z. Refuses (Some held) loaded (name ∷ begun) (imports_of z) f) (sym same) inner') k
+not_both held loaded begun (name ∷ names) xs f (anew x new is inner rest) (after_known b more) k = new.not_loaded b
+not_both held loaded begun (name ∷ names) xs f (anew {between = between} x new is inner rest) (after_new {between = others} y new' is' inner' more) k =
+    let same = same_text held name x y is is' in
+    let between_same = loads_one held loaded (name ∷ begun) (imports_of x) between others inner
+    (subst (λ z. Loads (Some held) loaded (name ∷ begun) (imports_of z) others) (sym same) inner') in
+    not_both held (between ++ x ∷ []) begun names xs f rest (subst (λ ts. Refuses (Some held) ts begun names f) (sym (ap₂ (λ ts z. ts ++ z ∷ []) between_same same)) more) k
 
 -- In the same state there is one refusal.
-pub refuses_one : (held : Held) (xs ys : List ModuleText) (begun names : List (List ℕ)) (f g : LoadFault)
-    → SameTexts xs ys → Refuses (Some held) xs begun names f → Refuses (Some held) ys begun names g → IsDecided f → IsDecided g → SameFault f g
-refuses_one held xs ys begun [] f g s a b k l = elim a [ ]
-refuses_one held xs ys begun (name ∷ names) f g s (here not r) (here not' r') k l = one_refusal held xs ys begun name f g s r r' k l
-refuses_one held xs ys begun (name ∷ names) f g s (here not r) (within y new is inner) k l = absurd (refused_or_read held ys xs begun name y f (flipped xs ys s) r new is k)
-refuses_one held xs ys begun (name ∷ names) f g s (here not r) (after_known b more) k l = absurd (not (still_loaded ys xs name (flipped xs ys s) b))
-refuses_one held xs ys begun (name ∷ names) f g s (here not r) (after_new y new is inner more) k l = absurd (refused_or_read held ys xs begun name y f (flipped xs ys s) r new is k)
-refuses_one held xs ys begun (name ∷ names) f g s (within x new is inner) (here not' r') k l = absurd (refused_or_read held xs ys begun name x g s r' new is l)
-refuses_one held xs ys begun (name ∷ names) f g s (within x new is inner) (within y new' is' inner') k l =
-    let imports = same_imports x y (same_text held name x y is is') in
-    refuses_one held xs ys (name ∷ begun) (imports_of x) f g s inner (subst (λ ns. Refuses (Some held) ys (name ∷ begun) ns g) (sym imports) inner') k l
-refuses_one held xs ys begun (name ∷ names) f g s (within x new is inner) (after_known b more) k l = absurd (new.not_loaded (still_loaded ys xs name (flipped xs ys s) b))
-refuses_one held xs ys begun (name ∷ names) f g s (within x new is inner) (after_new {between = others} y new' is' inner' more) k l =
-    let imports = same_imports x y (same_text held name x y is is') in
-    absurd (not_both held ys xs (name ∷ begun) (imports_of x) others f (flipped xs ys s) (subst (λ ns. Loads (Some held) ys (name ∷ begun) ns others) (sym imports) inner') inner k)
-refuses_one held xs ys begun (name ∷ names) f g s (after_known a rest) (here not' r') k l = absurd (not' (still_loaded xs ys name s a))
-refuses_one held xs ys begun (name ∷ names) f g s (after_known a rest) (within y new is inner) k l = absurd (new.not_loaded (still_loaded xs ys name s a))
-refuses_one held xs ys begun (name ∷ names) f g s (after_known a rest) (after_known b more) k l = refuses_one held xs ys begun names f g s rest more k l
-refuses_one held xs ys begun (name ∷ names) f g s (after_known a rest) (after_new y new is inner more) k l = absurd (new.not_loaded (still_loaded xs ys name s a))
-refuses_one held xs ys begun (name ∷ names) f g s (after_new x new is inner rest) (here not' r') k l = absurd (refused_or_read held xs ys begun name x g s r' new is l)
-refuses_one held xs ys begun (name ∷ names) f g s (after_new {between = between} x new is inner rest) (within y new' is' inner') k l =
-    let imports = same_imports x y (same_text held name x y is is') in
-    absurd (not_both held xs ys (name ∷ begun) (imports_of x) between g s inner (subst (λ ns. Refuses (Some held) ys (name ∷ begun) ns g) (sym imports) inner') l)
-refuses_one held xs ys begun (name ∷ names) f g s (after_new x new is inner rest) (after_known b more) k l = absurd (new.not_loaded (still_loaded ys xs name (flipped xs ys s) b))
-refuses_one held xs ys begun (name ∷ names) f g s (after_new {between = between} x new is inner rest) (after_new {between = others} y new' is' inner' more) k l =
+pub refuses_one : (held : Held) (loaded : List Text) (begun names : List (List ℕ)) (f g : LoadFault)
+    → Refuses (Some held) loaded begun names f → Refuses (Some held) loaded begun names g → IsDecided f → IsDecided g → SameFault f g
+refuses_one held loaded begun [] f g a b k l = elim a [ ]
+refuses_one held loaded begun (name ∷ names) f g (here not r) (here not' r') k l =
+    why_one held (length loaded) begun name f g (why held (length loaded) begun name f r) (why held (length loaded) begun name g r') k l
+refuses_one held loaded begun (name ∷ names) f g (here not r) (within y new is inner) k l = absurd (refused_or_read held loaded begun name y f r new is k)
+refuses_one held loaded begun (name ∷ names) f g (here not r) (after_known b more) k l = absurd (not b)
+refuses_one held loaded begun (name ∷ names) f g (here not r) (after_new y new is inner more) k l = absurd (refused_or_read held loaded begun name y f r new is k)
+refuses_one held loaded begun (name ∷ names) f g (within x new is inner) (here not' r') k l = absurd (refused_or_read held loaded begun name x g r' new is l)
+refuses_one held loaded begun (name ∷ names) f g (within x new is inner) (within y new' is' inner') k l =
     let same = same_text held name x y is is' in
-    let imports = same_imports x y same in
-    let between_same = loads_one held xs ys (name ∷ begun) (imports_of x) between others s inner
-    (subst (λ ns. Loads (Some held) ys (name ∷ begun) ns others) (sym imports) inner') in
-    refuses_one held (between ++ x ∷ []) (others ++ y ∷ []) begun names f g (same_append between others (x ∷ []) (y ∷ []) between_same (same, tt)) rest more k l
+    refuses_one held loaded (name ∷ begun) (imports_of x) f g inner (subst (λ z. Refuses (Some held) loaded (name ∷ begun) (imports_of z) g) (sym same) inner') k l
+refuses_one held loaded begun (name ∷ names) f g (within x new is inner) (after_known b more) k l = absurd (new.not_loaded b)
+refuses_one held loaded begun (name ∷ names) f g (within x new is inner) (after_new {between = others} y new' is' inner' more) k l =
+    let same = same_text held name x y is is' in
+    absurd (not_both held loaded (name ∷ begun) (imports_of x) others f (subst (λ z. Loads (Some held) loaded (name ∷ begun) (imports_of z) others) (sym same) inner') inner k)
+refuses_one held loaded begun (name ∷ names) f g (after_known a rest) (here not' r') k l = absurd (not' a)
+refuses_one held loaded begun (name ∷ names) f g (after_known a rest) (within y new is inner) k l = absurd (new.not_loaded a)
+refuses_one held loaded begun (name ∷ names) f g (after_known a rest) (after_known b more) k l = refuses_one held loaded begun names f g rest more k l
+refuses_one held loaded begun (name ∷ names) f g (after_known a rest) (after_new y new is inner more) k l = absurd (new.not_loaded a)
+refuses_one held loaded begun (name ∷ names) f g (after_new x new is inner rest) (here not' r') k l = absurd (refused_or_read held loaded begun name x g r' new is l)
+refuses_one held loaded begun (name ∷ names) f g (after_new {between = between} x new is inner rest) (within y new' is' inner') k l =
+    let same = same_text held name x y is is' in
+    absurd (not_both held loaded (name ∷ begun) (imports_of x) between g inner (subst (λ z. Refuses (Some held) loaded (name ∷ begun) (imports_of z) g) (sym same) inner') l)
+refuses_one held loaded begun (name ∷ names) f g (after_new x new is inner rest) (after_known b more) k l = absurd (new.not_loaded b)
+refuses_one held loaded begun (name ∷ names) f g (after_new {between = between} x new is inner rest) (after_new {between = others} y new' is' inner' more) k l =
+    let same = same_text held name x y is is' in
+    let between_same = loads_one held loaded (name ∷ begun) (imports_of x) between others inner
+    (subst (λ z. Loads (Some held) loaded (name ∷ begun) (imports_of z) others) (sym same) inner') in
+    refuses_one held (between ++ x ∷ []) begun names f g rest (subst (λ ts. Refuses (Some held) ts begun names g) (sym (ap₂ (λ ts z. ts ++ z ∷ []) between_same same)) more) k l

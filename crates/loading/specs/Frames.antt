@@ -3,10 +3,13 @@ use Rattle.std.specs.Prelude.{◌≡◌, ◌+◌, ℕ, List, [], ◌∷◌, map,
 use Rattle.std.specs.Prelude.{String, string_bytes}
 use Rattle.std.specs.declared.alloc.Global.{Global}
 use Rattle.loading.specs.declared.begun.Begun.{Begun}
-use Rattle.module_texts.specs.Texts.{name_of, imports_of}
+use Rattle.module_texts.specs.Texts.{Text, imports_of, text_of}
+
+abbrev pub begun_text : Begun → Text
+begun_text b = text_of b.text
 
 abbrev pub begun_name : Begun → List ℕ
-begun_name b = name_of b.text
+begun_name b = (begun_text b).name
 
 -- their names, of which the innermost is the last that began
 abbrev pub names_of : List Begun → List (List ℕ)
@@ -14,7 +17,7 @@ names_of begun = map begun_name (reverse begun)
 
 -- the names of the imports that are left
 abbrev pub left_of : Begun → List (List ℕ)
-left_of b = drop b.next (imports_of b.text)
+left_of b = drop b.next (imports_of (begun_text b))
 
 -- the next of them is passed, if one is left
 abbrev pub Passes : Begun → Begun → Option (String Global) → Type 0

@@ -3,18 +3,17 @@ use Rattle.std.specs.Prelude.{◌≡◌, ◌<◌, ◌≤◌, ◌+◌, ℕ, List,
 use Rattle.std.specs.Prelude.{Option, string_bytes}
 use Rattle.std.specs.List.{Any, Contains}
 use Rattle.edge.specs.Files.{Held}
-use Rattle.module_texts.specs.declared.text.ModuleText.{ModuleText}
 use Rattle.loading.specs.declared.text.LoadFault.{LoadFault}
 use Rattle.loading.specs.declared.text.LoadFault.TheVariants as fault
 use Rattle.loading.specs.Texts.{IsText, FailsAt}
-use Rattle.module_texts.specs.Texts.{name_of, imports_of, path_of}
+use Rattle.module_texts.specs.Texts.{Text, imports_of, path_of}
 
 -- the most modules that are loaded for one command
 abbrev pub most_modules : ℕ
 most_modules = 250
 
-abbrev pub IsLoaded : List ModuleText → List ℕ → Type 0
-IsLoaded loaded name = Any (λ x. name_of x ≡ name) loaded
+abbrev pub IsLoaded : List Text → List ℕ → Type 0
+IsLoaded loaded name = Any (λ x. x.name ≡ name) loaded
 
 -- Where so many modules are loaded, and the loading of those of the names `begun` has not ended:
 -- that name is another, and there is room for it.
@@ -23,19 +22,19 @@ IsAnother loaded begun name =
     (Contains begun name → ⊥) × (loaded + length begun < most_modules)
 
 -- and no module of that name is loaded
-pub record IsNew (loaded : List ModuleText) (begun : List (List ℕ)) (name : List ℕ) : Type 0 where
+pub record IsNew (loaded : List Text) (begun : List (List ℕ)) (name : List ℕ) : Type 0 where
   pub not_loaded : (IsLoaded loaded name → ⊥)
   pub another : IsAnother (length loaded) begun name
 
 -- From there on, after the modules of these names the modules `after` are loaded.
 pub data Loads (held : Option Held) :
-    List ModuleText → List (List ℕ) → List (List ℕ) → List ModuleText → Type 0 where
-  none : {loaded : List ModuleText} {begun : List (List ℕ)} → Loads held loaded begun [] loaded
-  known : {loaded after : List ModuleText} {begun names : List (List ℕ)} {name : List ℕ}
+    List Text → List (List ℕ) → List (List ℕ) → List Text → Type 0 where
+  none : {loaded : List Text} {begun : List (List ℕ)} → Loads held loaded begun [] loaded
+  known : {loaded after : List Text} {begun names : List (List ℕ)} {name : List ℕ}
       → IsLoaded loaded name → Loads held loaded begun names after
       → Loads held loaded begun (name ∷ names) after
-  anew : {loaded between after : List ModuleText} {begun names : List (List ℕ)} {name : List ℕ}
-      (x : ModuleText) → IsNew loaded begun name → IsText held name x
+  anew : {loaded between after : List Text} {begun names : List (List ℕ)} {name : List ℕ}
+      (x : Text) → IsNew loaded begun name → IsText held name x
       → Loads held loaded (name ∷ begun) (imports_of x) between
       → Loads held (between ++ x ∷ []) begun names after
       → Loads held loaded begun (name ∷ names) after
@@ -51,19 +50,19 @@ RefusesOne held loaded begun name f = IsAnother loaded begun name × FailsAt hel
 
 -- From there on, this is the first refusal.
 pub data Refuses (held : Option Held) :
-    List ModuleText → List (List ℕ) → List (List ℕ) → LoadFault → Type 0 where
-  here : {loaded : List ModuleText} {begun names : List (List ℕ)} {name : List ℕ} {f : LoadFault}
+    List Text → List (List ℕ) → List (List ℕ) → LoadFault → Type 0 where
+  here : {loaded : List Text} {begun names : List (List ℕ)} {name : List ℕ} {f : LoadFault}
       → (IsLoaded loaded name → ⊥) → RefusesOne held (length loaded) begun name f
       → Refuses held loaded begun (name ∷ names) f
-  within : {loaded : List ModuleText} {begun names : List (List ℕ)} {name : List ℕ} {f : LoadFault}
-      (x : ModuleText) → IsNew loaded begun name → IsText held name x
+  within : {loaded : List Text} {begun names : List (List ℕ)} {name : List ℕ} {f : LoadFault}
+      (x : Text) → IsNew loaded begun name → IsText held name x
       → Refuses held loaded (name ∷ begun) (imports_of x) f
       → Refuses held loaded begun (name ∷ names) f
-  after_known : {loaded : List ModuleText} {begun names : List (List ℕ)} {name : List ℕ}
+  after_known : {loaded : List Text} {begun names : List (List ℕ)} {name : List ℕ}
       {f : LoadFault} → IsLoaded loaded name → Refuses held loaded begun names f
       → Refuses held loaded begun (name ∷ names) f
-  after_new : {loaded between : List ModuleText} {begun names : List (List ℕ)} {name : List ℕ}
-      {f : LoadFault} (x : ModuleText) → IsNew loaded begun name → IsText held name x
+  after_new : {loaded between : List Text} {begun names : List (List ℕ)} {name : List ℕ}
+      {f : LoadFault} (x : Text) → IsNew loaded begun name → IsText held name x
       → Loads held loaded (name ∷ begun) (imports_of x) between
       → Refuses held (between ++ x ∷ []) begun names f
       → Refuses held loaded begun (name ∷ names) f

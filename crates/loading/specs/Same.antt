@@ -1,21 +1,7 @@
--- Modules that are the same but for where they lie in memory, and faults of them.
-use Rattle.std.specs.Prelude.{◌≡◌, List, [], ◌∷◌, string_bytes}
-use Rattle.syntax.specs.View.{module_of}
-use Rattle.module_texts.specs.declared.text.ModuleText.{ModuleText}
-use Rattle.module_texts.specs.Texts.{name_of}
+-- Faults that are the same but for where they lie in memory.
+use Rattle.std.specs.Prelude.{◌≡◌, string_bytes}
 use Rattle.loading.specs.declared.text.LoadFault.{LoadFault}
 use Rattle.loading.specs.declared.text.LoadFault.TheVariants as fault
-
--- they have one name, one text and one tree
-pub record SameText (x y : ModuleText) : Type 0 where
-  pub named : name_of x ≡ name_of y
-  pub bytes : x.bytes.items ≡ y.bytes.items
-  pub tree : module_of x.module ≡ module_of y.module
-
-abbrev pub SameTexts : List ModuleText → List ModuleText → Type 0
-SameTexts [] [] = Unit {0}
-SameTexts (x ∷ xs) (y ∷ ys) = SameText x y × SameTexts xs ys
-SameTexts _ _ = ⊥
 
 -- a fault that what is held decides: no fault of a read, and not out of memory
 abbrev pub IsDecided : LoadFault → Type 0

@@ -9,14 +9,12 @@ use Rattle.layout_lexer.specs.declared.fault.LexFault.{LexFault}
 use Rattle.layout_lexer.specs.declared.fault.LexFault.TheVariants as lex_fault
 use Rattle.layout_lexer.specs.Texts.{tokens_of}
 use Rattle.syntax.specs.Tree.{Tree}
-use Rattle.syntax.specs.View.{module_of}
 use Rattle.productions.specs.Words.{pieces}
 use Rattle.productions.specs.Grammar.{IsModule}
 use Rattle.grammar.specs.declared.reading.ReadFault.{ReadFault}
 use Rattle.grammar.specs.declared.reading.ReadFault.TheVariants as read_fault
 use Rattle.grammar.specs.Faults.{IsRead, IsFault}
-use Rattle.module_texts.specs.declared.text.ModuleText.{ModuleText}
-use Rattle.module_texts.specs.Texts.{name_of, path_of}
+use Rattle.module_texts.specs.Texts.{Text, path_of}
 use Rattle.loading.specs.declared.text.LoadFault.{LoadFault}
 use Rattle.loading.specs.declared.text.LoadFault.TheVariants as fault
 
@@ -46,10 +44,10 @@ FailsIn bytes path fault.Memory = Unit {0}
 FailsIn bytes path f = ⊥
 
 -- the file of that name holds the module's bytes, which are read so
-pub record IsText (held : Option Held) (name : List ℕ) (x : ModuleText) : Type 0 where
-  pub named : name_of x ≡ name
-  pub holds : HoldsAt held (path_of name) (Some x.bytes.items)
-  pub reads : ReadsAs x.bytes.items (module_of x.module)
+pub record IsText (held : Option Held) (name : List ℕ) (x : Text) : Type 0 where
+  pub named : x.name ≡ name
+  pub holds : HoldsAt held (path_of name) (Some x.bytes)
+  pub reads : ReadsAs x.bytes x.tree
 
 -- when the module of that name is not read, with this fault
 abbrev pub FailsAt : Option Held → List ℕ → LoadFault → Type 0

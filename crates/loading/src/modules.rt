@@ -1,11 +1,12 @@
 //! A module and those that its imports reach.
 
 ghost use Rattle.std.specs.Prelude.{◌≡◌, ◌≢◌, ◌<◌, ◌↔◌, ◌+◌, ◌^◌, [], ◌∷◌, IfErr, IfOk, IsTrue};
-ghost use Rattle.std.specs.Prelude.{length, string_bytes};
+ghost use Rattle.std.specs.Prelude.{length, map};
 ghost use Rattle.std.specs.List.{Any};
 ghost use Rattle.loading.specs.Texts.{CountsAfter, IsText};
 ghost use Rattle.loading.specs.Loading.{Loads, Refuses, IsAnother, IsLoaded, RefusesOne};
 ghost use Rattle.loading.specs.Frames.{begun_name, names_of, Passes};
+ghost use Rattle.module_texts.specs.Texts.{text_of};
 
 use crate::begun::Begun;
 use crate::named::is_among;
@@ -32,7 +33,7 @@ impl Begun {
 
 /// Whether a module of this name is loaded.
 fn is_loaded(loaded: &[ModuleText], name: &str) -> bool
-    ensures { IsTrue result ↔ IsLoaded loaded.now name.now }
+    ensures { IsTrue result ↔ IsLoaded (map text_of loaded.now) name.now }
 {
     is_among(loaded, name)
 }
@@ -54,7 +55,7 @@ fn begin<F: Files>(
 ) -> Result<ModuleText, LoadFault>
     requires fits { loaded + length begun.now < 2 ^ 64 }
     ensures another { IfOk result (λ x. IsAnother loaded (names_of begun.now) name.now) }
-    ensures text { IfOk result (IsText (F.held files.old) name.now) }
+    ensures text { IfOk result (λ x. IsText (F.held files.old) name.now (text_of x)) }
     ensures err { IfErr result (λ f. f ≢ LoadFault.Memory →
         RefusesOne (F.held files.old) loaded (names_of begun.now) name.now f) }
     ensures counted { CountsAfter result (F.counts files.old) (F.counts files.new) }
@@ -82,7 +83,7 @@ pub fn load<F: Files>(
     name: &str,
 ) -> Result<Vec<ModuleText>, LoadFault>
     ensures ok { IfOk result (λ texts.
-        Loads (F.held files.old) [] [] (name.now ∷ []) texts.items) }
+        Loads (F.held files.old) [] [] (name.now ∷ []) (map text_of texts.items)) }
     ensures err { IfErr result (λ f.
         f ≢ LoadFault.Memory → Refuses (F.held files.old) [] [] (name.now ∷ []) f) }
     ensures counted { CountsAfter result (F.counts files.old) (F.counts files.new) }

@@ -3,7 +3,7 @@
 ghost use Rattle.std.specs.Prelude.{◌≡◌, IfErr, IfOk, string_bytes};
 ghost use Rattle.syntax.specs.View.{module_of};
 ghost use Rattle.loading.specs.Texts.{CountsAfter, FailsAt, FailsIn, IsText, ReadsAs};
-ghost use Rattle.module_texts.specs.Texts.{path_of};
+ghost use Rattle.module_texts.specs.Texts.{path_of, text_of};
 
 use edge::{Fetched, Files};
 use grammar::{ReadFault, read};
@@ -56,7 +56,7 @@ pub fn read_text<F: Files>(
     path: String,
 ) -> Result<ModuleText, LoadFault>
     requires { string_bytes path ≡ path_of name.now }
-    ensures ok { IfOk result (IsText (F.held files.old) name.now) }
+    ensures ok { IfOk result (λ x. IsText (F.held files.old) name.now (text_of x)) }
     ensures err { IfErr result (FailsAt (F.held files.old) name.now) }
     ensures counted { CountsAfter result (F.counts files.old) (F.counts files.new) }
     ensures held { F.held files.new ≡ F.held files.old }

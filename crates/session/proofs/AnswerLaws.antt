@@ -10,12 +10,12 @@ use Rattle.grammar.specs.declared.reading.ReadFault.TheVariants as read
 use Rattle.translation.specs.declared.fault.ScopeFault.{ScopeFault}
 use Rattle.translation.specs.declared.fault.ScopeFault.TheVariants as scope
 use Rattle.trees.specs.Judgements.{Judgement}
-use Rattle.module_texts.specs.declared.text.ModuleText.{ModuleText}
-use Rattle.module_texts.specs.Texts.{path_of}
+use Rattle.module_texts.specs.Texts.{Text, path_of}
 use Rattle.loading.specs.declared.text.LoadFault.{LoadFault}
 use Rattle.loading.specs.declared.text.LoadFault.TheVariants as load
-use Rattle.loading.specs.Same.{SameTexts, SameFault, IsDecided}
+use Rattle.loading.specs.Same.{SameFault, IsDecided}
 use Rattle.loading.proofs.LoadLaws.{loads_one, refuses_one, not_both}
+use Rattle.linking.specs.Modules.{AreFine, RefusedFirst, judgements, meanings}
 use Rattle.session.specs.declared.refusal.Cause.{Cause}
 use Rattle.session.specs.declared.refusal.Cause.TheVariants as cause
 use Rattle.session.specs.declared.outcome.Outcome.{Outcome}
@@ -24,7 +24,7 @@ use Rattle.session.specs.Refusals.{cause_name, place_text, refusal, told_lex, to
 use Rattle.session.specs.Modules.{AreLoaded, NotLoaded, NotResolved, Spells}
 use Rattle.session.specs.Outcomes.{plain_text, status_of}
 use Rattle.session.specs.Answers.{IsReplayed, MayReplayOf, not_loaded, not_resolved, replayed, OneAnswer}
-use Rattle.session.proofs.ModuleLaws.{same_judgements, same_name, fine_or_refused, refused_once, IsOfText}
+use Rattle.session.proofs.ModuleLaws.{fine_or_refused, refused_once, IsOfText}
 use Rattle.session.proofs.ExclusionLemmas.{SameAnswer, same_missing, replayed_one}
 
 -- how faults are told
@@ -119,33 +119,36 @@ of_text scope.Memory path told e = cc
 
 -- one of the three ways, in one way
 module _ (held : Held) (name : List ℕ) (one other : Outcome) (n : one ≢ outcome.ReadFault) (n' : other ≢ outcome.ReadFault) where
-  pub loaded_one : (xs ys : List ModuleText) → AreLoaded (Some held) name xs → AreLoaded (Some held) name ys → SameTexts xs ys
-  loaded_one xs ys a b = loads_one held [] [] [] (name ∷ []) xs ys tt a b
+  pub loaded_one : (xs ys : List Text) → AreLoaded (Some held) name xs → AreLoaded (Some held) name ys → xs ≡ ys
+  loaded_one xs ys a b = loads_one held [] [] (name ∷ []) xs ys a b
 
-  pub loaded_or_not : (xs : List ModuleText) (told : Outcome) → told ≢ outcome.ReadFault → AreLoaded (Some held) name xs → NotLoaded (Some held) name told → ⊥
-  loaded_or_not xs told m a b = not_both held [] [] [] (name ∷ []) xs b.fault tt a b.refuses (decided b.fault told b.is_told m)
+  pub loaded_or_not : (xs : List Text) (told : Outcome) → told ≢ outcome.ReadFault → AreLoaded (Some held) name xs → NotLoaded (Some held) name told → ⊥
+  loaded_or_not xs told m a b = not_both held [] [] (name ∷ []) xs b.fault a b.refuses (decided b.fault told b.is_told m)
 
   pub both_not_loaded : NotLoaded (Some held) name one → NotLoaded (Some held) name other → SameAnswer one other
   both_not_loaded a b =
       let f = decided a.fault one a.is_told n in
       let g = decided b.fault other b.is_told n' in
-      load_told a.fault b.fault one other (refuses_one held [] [] [] (name ∷ []) a.fault b.fault tt a.refuses b.refuses f g) n a.is_told b.is_told
+      load_told a.fault b.fault one other (refuses_one held [] [] (name ∷ []) a.fault b.fault a.refuses b.refuses f g) n a.is_told b.is_told
 
   pub both_not_resolved : NotResolved (Some held) name one → NotResolved (Some held) name other → SameAnswer one other
   both_not_resolved a b =
       let s = loaded_one a.texts b.texts a.loaded b.loaded in
-      let r = refused_once a.texts b.texts a.at b.at a.fault b.fault s a.refuses b.refuses (of_text a.fault a.path one a.is_told) (of_text b.fault b.path other b.is_told) in
-      let here : slice_get b.texts a.at ≡ Some b.refused = subst (λ i. slice_get b.texts i ≡ Some b.refused) (sym r.0) b.refused_is in
-      let named = same_name a.texts b.texts a.at a.refused b.refused s a.refused_is here in
-      let path : string_bytes a.path ≡ string_bytes b.path = a.path_is ∙ ap path_of named ∙ sym b.path_is in
+      let first = subst (λ xs. RefusedFirst xs a.at a.fault) s a.refuses in
+      let r = refused_once b.texts a.at b.at a.fault b.fault first b.refuses (of_text a.fault a.path one a.is_told) (of_text b.fault b.path other b.is_told) in
+      let here = subst (λ i. slice_get b.texts i ≡ Some a.refused) r.0 (subst (λ xs. slice_get xs a.at ≡ Some a.refused) s a.refused_is) in
+      let found : Some a.refused ≡ Some b.refused = sym here ∙ b.refused_is in
+      let same : a.refused ≡ b.refused = cc in
+      let path : string_bytes a.path ≡ string_bytes b.path = a.path_is ∙ ap (λ (x : Text). path_of x.name) same ∙ sym b.path_is in
       scope_told b.fault a.path b.path one other path (subst (λ f. told_scope f a.path ≡ Some one) r.1 a.is_told) b.is_told
 
   spelt_one : (Js Ks : List Judgement) → Spells (Some held) name Js → Spells (Some held) name Ks → Js ≡ Ks
-  spelt_one Js Ks a b = a.spelt ∙ same_judgements a.texts b.texts (loaded_one a.texts b.texts a.loaded b.loaded) ∙ sym b.spelt
+  spelt_one Js Ks a b = a.spelt ∙ ap judgements (loaded_one a.texts b.texts a.loaded b.loaded) ∙ sym b.spelt
 
   spelt_or_refused : (Js : List Judgement) (told : Outcome) → Spells (Some held) name Js → NotResolved (Some held) name told → ⊥
   spelt_or_refused Js told a b =
-      fine_or_refused a.texts b.texts b.at b.fault (loaded_one a.texts b.texts a.loaded b.loaded) a.fine b.refuses (of_text b.fault b.path told b.is_told)
+      let fine = subst (λ xs. AreFine (meanings xs)) (loaded_one a.texts b.texts a.loaded b.loaded) a.fine in
+      fine_or_refused b.texts b.at b.fault fine b.refuses (of_text b.fault b.path told b.is_told)
 
   pub of_module : (path : List ℕ) → MayReplayOf (Some held) path name one → MayReplayOf (Some held) path name other → SameAnswer one other
   of_module path (not_loaded a) (not_loaded b) = both_not_loaded a b

@@ -28,7 +28,7 @@ use Rattle.direct.specs.Direct.{other_place}
 use Rattle.bidirect.specs.declared.checker.Checked.TheVariants.{Direct}
 use Rattle.session.specs.declared.program.Program.{Program}
 use Rattle.session.specs.declared.check_command.Found.TheVariants as found
-use Rattle.session.specs.Loaded.{IsRead, stated_by}
+use Rattle.session.specs.Loaded.{IsRead, stated_by, texts_of}
 use Rattle.session.specs.Checks.{IsChecked, IsDerived, IsRefusedAt, IsStored, MayCheck, MayLeave, Stores, derivation, derived, nodes_of, not_direct, told_stored}
 use Rattle.book_writer.specs.Written.{IsWritten}
 use Rattle.session.proofs.LoadedLaws.{told_is}
@@ -76,17 +76,18 @@ pub refused_counted : (old new : SeenFiles) (told : Outcome) {texts : _} {k : �
 refused_counted old new told {texts} {k} c r = subst (IsCounted old new) (sym r.is_told) c
 
 -- what was found is a derivation of what the module and its imports spell
-pub is_derived : (held : Option Held) (name : List ℕ) (program : Program) (defs : List CodeDef) (bytes : Vec ℕ Global) (count : ℕ) → IsRead held name program → defs ≡ defs_in program.codes → IsChecked defs (found.Derived bytes) → count ≡ length defs
+pub is_derived : (held : Option Held) (name : List ℕ) (program : Program) (defs : List CodeDef) (bytes : Vec ℕ Global) (count : ℕ) → IsRead held name (texts_of program) program.codes → defs ≡ defs_in program.codes → IsChecked defs (found.Derived bytes) → count ≡ length defs
     → IsDerived held name bytes.items count
 is_derived held name program defs bytes count read same checked counted =
     let here = subst (λ ds. IsChecked ds (found.Derived bytes)) same checked in
     record {
-      program = program;
+      texts = texts_of program;
+      codes = program.codes;
       is_read = read;
       direct = here.0;
       rows = here.1.0;
       written = subst (IsWritten bytes.items here.1.0) read.linked.judgements_are here.1.1;
-      counted = counted ∙ ap length same ∙ count_of_places program.texts.items program.codes read.linked;
+      counted = counted ∙ ap length same ∙ count_of_places (texts_of program) program.codes read.linked;
     }
 
 -- it was stored
@@ -105,8 +106,8 @@ leave_derived name bytes count old mid new (Err e) same is stores err =
     not_failed answer e = λ f. cc
 
 -- a definition is refused
-pub check_refused : (name : List ℕ) (old new : SeenFiles) (program : Program) (k : ℕ) (r : Result Outcome AllocError) → IsRead old.held name program → other_place (defs_in program.codes) [] ≡ Some k → StoresNothing old new → new.counts ≡ old.counts
-    → IfOk r (IsRefusedAt program.texts.items k) → IfOk r (λ told. MayCheck name old new told × IsCounted old new told)
+pub check_refused : (name : List ℕ) (old new : SeenFiles) (program : Program) (k : ℕ) (r : Result Outcome AllocError) → IsRead old.held name (texts_of program) program.codes → other_place (defs_in program.codes) [] ≡ Some k → StoresNothing old new → new.counts ≡ old.counts
+    → IfOk r (IsRefusedAt (texts_of program) k) → IfOk r (λ told. MayCheck name old new told × IsCounted old new told)
 check_refused name old new program k (Ok told) read first nothing counts refused =
-    (not_direct (record { program = program; is_read = read; at = k; first = first; refused = refused }) nothing, refused_counted old new told counts refused)
+    (not_direct (record { texts = texts_of program; codes = program.codes; is_read = read; at = k; first = first; refused = refused }) nothing, refused_counted old new told counts refused)
 check_refused name old new program k (Err e) read first nothing counts refused = tt

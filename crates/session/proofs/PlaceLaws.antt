@@ -16,6 +16,7 @@ use Rattle.readings.proofs.Spelling.{names_written}
 use Rattle.resolver.specs.declared.resolving.Codes.{Codes}
 use Rattle.resolver.specs.Resolved.{defs_in}
 use Rattle.module_texts.specs.declared.text.ModuleText.{ModuleText}
+use Rattle.module_texts.specs.Texts.{Text, text_of}
 use Rattle.linking.specs.Modules.{names_in}
 use Rattle.linking.specs.Linked.{IsLinked}
 use Rattle.direct.specs.Known.{Known}
@@ -70,33 +71,33 @@ drop_one (y ∷ xs) (suc k) x l e = drop_one xs k x (omega arith) e ∙ ap (λ n
 
 -- the definitions of one module
 
-names_spelt : (x : ModuleText) → names_in x ≡ def_names (def_items x.module.defs)
+names_spelt : (x : ModuleText) → names_in (text_of x) ≡ def_names (def_items x.module.defs)
 unfolding written_in
 names_spelt x =
     ap (λ ts. map (λ (w : Written). w.name) (defs x.bytes.items ts)) (defs_of_items x.module.defs)
     ∙ names_written x.bytes.items (def_items x.module.defs)
 
-pub count_in : (x : ModuleText) → length (def_items x.module.defs) ≡ length (places_in x)
+pub count_in : (x : ModuleText) → length (def_items x.module.defs) ≡ length (places_in (text_of x))
 count_in x =
     sym (length-map (def_items x.module.defs) (λ d. (out-Def d).name)) ∙ sym (ap length (names_spelt x))
-    ∙ sym (length-map (names_in x) (λ s. let p : Place = record { holder = x; name = s } in p))
+    ∙ sym (length-map (names_in (text_of x)) (λ s. let p : Place = record { holder = text_of x; name = s } in p))
 
 -- those of all modules are named as their codes are
 
 name_at : Place → Span
 name_at p = p.name
 
-names_of_one : (x : ModuleText) (ss : List Span) → map (λ (p : Place). p.name) (map (λ s. record { holder = x; name = s }) ss) ≡ ss
+names_of_one : (x : Text) (ss : List Span) → map (λ (p : Place). p.name) (map (λ s. record { holder = x; name = s }) ss) ≡ ss
 names_of_one x [] = refl
 names_of_one x (s ∷ ss) = ap (λ ns. s ∷ ns) (names_of_one x ss)
 
-names_of_places : (xs : List ModuleText) → map (λ (p : Place). p.name) (places xs) ≡ flat_map names_in xs
+names_of_places : (xs : List Text) → map (λ (p : Place). p.name) (places xs) ≡ flat_map names_in xs
 names_of_places [] = refl
 names_of_places (x ∷ xs) =
     map_append (λ (p : Place). p.name) (places_in x) (places xs) ∙ ap (λ ns. ns ++ map (λ (p : Place). p.name) (places xs)) (names_of_one x (names_in x))
     ∙ ap (λ ns. names_in x ++ ns) (names_of_places xs)
 
-module _ (texts : List ModuleText) (codes : Codes) (linked : IsLinked texts codes) where
+module _ (texts : List Text) (codes : Codes) (linked : IsLinked texts codes) where
   pub count_of_places : length (defs_in codes) ≡ length (places texts)
   count_of_places =
       sym (length-map (defs_in codes) (λ c. (out-CodeDef c).name)) ∙ ap length (linked.named ∙ sym (names_of_places texts))
@@ -115,14 +116,14 @@ module _ (texts : List ModuleText) (codes : Codes) (linked : IsLinked texts code
 -- the module that holds a definition
 
 -- All modules before one are passed, and the definition is the so-many-th of those that are left.
-pub record Looks (texts : List ModuleText) (place number left : ℕ) : Type 0 where
+pub record Looks (texts : List Text) (place number left : ℕ) : Type 0 where
   pub same : slice_get (places texts) place ≡ slice_get (places (drop number texts)) left
   pub within : left < length (places (drop number texts))
 
-pub looks_first : (texts : List ModuleText) (place : ℕ) → place < length (places texts) → Looks texts place 0 place
+pub looks_first : (texts : List Text) (place : ℕ) → place < length (places texts) → Looks texts place 0 place
 looks_first texts place l = record { same = refl; within = l }
 
-pub looks_inside : (texts : List ModuleText) (place number left : ℕ) → Looks texts place number left → number < length texts
+pub looks_inside : (texts : List Text) (place number left : ℕ) → Looks texts place number left → number < length texts
 looks_inside texts place number left looks = elim (cases_lt number (length texts)) [
   | inl less ↦ less
   | inr more ↦
@@ -131,9 +132,9 @@ looks_inside texts place number left looks = elim (cases_lt number (length texts
       absurd (omega arith)
 ]
 
-module _ (texts : List ModuleText) (place number left count : ℕ) (x : ModuleText) (looks : Looks texts place number left) (inside : number < length texts)
+module _ (texts : List Text) (place number left count : ℕ) (x : Text) (looks : Looks texts place number left) (inside : number < length texts)
     (is : x ≡ slice_index_or texts number x) (counted : count ≡ length (places_in x)) where
-  rest : List ModuleText
+  rest : List Text
   rest = drop (number + 1) texts
 
   here : places (drop number texts) ≡ places_in x ++ places (drop (number + 1) texts)

@@ -11,7 +11,7 @@ use Rattle.resolver.specs.Resolved.{defs_in}
 use Rattle.session.specs.declared.outcome.Outcome.{Outcome}
 use Rattle.session.specs.declared.outcome.Outcome.TheVariants as outcome
 use Rattle.session.specs.Modules.{Spells}
-use Rattle.session.specs.Loaded.{IsProgram, codes_of, stated_by, wanted_by}
+use Rattle.session.specs.Loaded.{IsProgram, codes_of, stated_by, texts_of, wanted_by}
 use Rattle.session.specs.Outcomes.{IsCounted}
 use Rattle.session.specs.Answers.{IsFound, IsReplayed, MayReplay, replayed}
 
@@ -38,7 +38,7 @@ wanted_same (Some p) program e = ap wanted_of (sym e)
 -- the module's definitions spell these
 pub spelt : (name : List ℕ) (old new : SeenFiles) (program : Program) → IsProgram name old new (Ok program) → Spells old.held name (judgements_of (stated_by (defs_in program.codes)))
 spelt name old new program p = let is = p.1 in
-    record { texts = program.texts.items; loaded = is.loaded; fine = is.linked.fine; spelt = is.linked.judgements_are }
+    record { texts = texts_of program; loaded = is.loaded; fine = is.linked.fine; spelt = is.linked.judgements_are }
 
 -- what is found of the bytes that the path holds
 pub replay_found : (held : Option Held) (path : List ℕ) (wanted : Option (List Judgement)) (bytes : List ℕ) (told : Outcome) → HoldsAt held path (Some bytes) → IsFound bytes wanted told → IsReplayed held path wanted told

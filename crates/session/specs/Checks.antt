@@ -12,9 +12,9 @@ use Rattle.edge.specs.declared.files.Stored.TheVariants as stored
 use Rattle.layout_lexer.specs.declared.token.Span.{Span}
 use Rattle.translation.specs.Translated.{judgements_of}
 use Rattle.codes.specs.declared.code.CodeDef.{CodeDef}
+use Rattle.resolver.specs.declared.resolving.Codes.{Codes}
 use Rattle.resolver.specs.Resolved.{defs_in}
-use Rattle.module_texts.specs.declared.text.ModuleText.{ModuleText}
-use Rattle.module_texts.specs.Texts.{name_of, path_of}
+use Rattle.module_texts.specs.Texts.{Text, path_of}
 use Rattle.linking.specs.Modules.{judgements, names_in}
 use Rattle.book.specs.declared.kernel.NodeId.{NodeId}
 use Rattle.book_writer.specs.Written.{IsWritten}
@@ -23,7 +23,6 @@ use Rattle.direct.specs.Direct.{other_place}
 use Rattle.session.specs.declared.outcome.Outcome.{Outcome}
 use Rattle.session.specs.declared.outcome.Outcome.TheVariants as outcome
 use Rattle.session.specs.declared.refusal.Cause.TheVariants as cause
-use Rattle.session.specs.declared.program.Program.{Program}
 use Rattle.session.specs.declared.check_command.Found.{Found}
 use Rattle.session.specs.declared.check_command.Found.TheVariants as found
 use Rattle.session.specs.Refusals.{refusal}
@@ -37,41 +36,43 @@ derivation_path name = name ++ codes ".drv"
 
 -- a definition's module, and where it is named there
 pub record Place : Type 0 where
-  pub holder : ModuleText
+  pub holder : Text
   pub name : Span
 
 -- the places of the definitions of modules, in order
-abbrev pub places_in : ModuleText → List Place
+abbrev pub places_in : Text → List Place
 places_in x = map (λ s. record { holder = x; name = s }) (names_in x)
 
-abbrev pub places : List ModuleText → List Place
+abbrev pub places : List Text → List Place
 places = flat_map places_in
 
 -- The module and those that it imports are loaded and resolved, all their definitions are direct,
 -- and the file derives the judgements that they spell, and holds no row that serves none of these.
 pub record IsDerived (held : Option Held) (name bytes : List ℕ) (count : ℕ) : Type 0 where
-  pub program : Program
-  pub is_read : IsRead held name program
-  pub direct : other_place (defs_in program.codes) [] ≡ None
+  pub texts : List Text
+  pub codes : Codes
+  pub is_read : IsRead held name texts codes
+  pub direct : other_place (defs_in codes) [] ≡ None
   pub rows : ℕ
-  pub written : IsWritten bytes rows (judgements program.texts.items)
-  pub counted : count ≡ length (places program.texts.items)
+  pub written : IsWritten bytes rows (judgements texts)
+  pub counted : count ≡ length (places texts)
 
 -- the definition at that place of all is refused, at its name
-pub record IsRefusedAt (texts : List ModuleText) (k : ℕ) (told : Outcome) : Type 0 where
+pub record IsRefusedAt (texts : List Text) (k : ℕ) (told : Outcome) : Type 0 where
   pub place : Place
   pub is : slice_get (places texts) k ≡ Some place
   pub path : String Global
-  pub path_is : string_bytes path ≡ path_of (name_of place.holder)
+  pub path_is : string_bytes path ≡ path_of place.holder.name
   pub is_told : told ≡ refusal cause.RefusedForm (Some place.name.start) path
 
 -- they are loaded and resolved, and this tells of the first definition that is not direct
 pub record NotDirect (held : Option Held) (name : List ℕ) (told : Outcome) : Type 0 where
-  pub program : Program
-  pub is_read : IsRead held name program
+  pub texts : List Text
+  pub codes : Codes
+  pub is_read : IsRead held name texts codes
   pub at : ℕ
-  pub first : other_place (defs_in program.codes) [] ≡ Some at
-  pub refused : IsRefusedAt program.texts.items at told
+  pub first : other_place (defs_in codes) [] ≡ Some at
+  pub refused : IsRefusedAt texts at told
 
 -- what a store of a module's derivation did to the files
 pub record IsStored (name bytes : List ℕ) (old new : SeenFiles) (answer : Stored) : Type 0 where

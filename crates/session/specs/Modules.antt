@@ -5,21 +5,20 @@ use Rattle.std.specs.declared.alloc.Global.{Global}
 use Rattle.edge.specs.Files.{Held}
 use Rattle.trees.specs.Judgements.{Judgement}
 use Rattle.translation.specs.declared.fault.ScopeFault.{ScopeFault}
-use Rattle.module_texts.specs.declared.text.ModuleText.{ModuleText}
 use Rattle.loading.specs.declared.text.LoadFault.{LoadFault}
-use Rattle.module_texts.specs.Texts.{name_of, path_of}
+use Rattle.module_texts.specs.Texts.{Text, path_of}
 use Rattle.loading.specs.Loading.{Loads, Refuses}
 use Rattle.linking.specs.Modules.{AreFine, RefusedFirst, judgements, meanings}
 use Rattle.session.specs.declared.outcome.Outcome.{Outcome}
 use Rattle.session.specs.Refusals.{told_load, told_scope}
 
 -- these are the modules that are loaded for one of that name
-abbrev pub AreLoaded : Option Held → List ℕ → List ModuleText → Type 0
+abbrev pub AreLoaded : Option Held → List ℕ → List Text → Type 0
 AreLoaded held name = Loads held [] [] (name ∷ [])
 
 -- the judgements that the module's text spells
 pub record Spells (held : Option Held) (name : List ℕ) (Js : List Judgement) : Type 0 where
-  pub texts : List ModuleText
+  pub texts : List Text
   pub loaded : AreLoaded held name texts
   pub fine : AreFine (meanings texts)
   pub spelt : Js ≡ judgements texts
@@ -32,15 +31,15 @@ pub record NotLoaded (held : Option Held) (name : List ℕ) (told : Outcome) : T
 
 -- all modules are loaded, and one of them is the first that is refused
 pub record NotResolved (held : Option Held) (name : List ℕ) (told : Outcome) : Type 0 where
-  pub texts : List ModuleText
+  pub texts : List Text
   pub loaded : AreLoaded held name texts
-  pub refused : ModuleText
+  pub refused : Text
   pub at : ℕ
   pub refused_is : slice_get texts at ≡ Some refused
   pub fault : ScopeFault
   pub refuses : RefusedFirst texts at fault
   pub path : String Global
-  pub path_is : string_bytes path ≡ path_of (name_of refused)
+  pub path_is : string_bytes path ≡ path_of refused.name
   pub is_told : told_scope fault path ≡ Some told
 
 -- the first place where two lists differ, or one has ended

@@ -1,13 +1,16 @@
 //! The command `check`: it checks a module as it stands, and stores its derivation.
 
-ghost use Rattle.std.specs.Prelude.{◌≡◌, ◌<◌, ℕ, List, IfOk, IsErr, IsSome, Some, length, slice_get};
+ghost use Rattle.std.specs.Prelude.{◌≡◌, ◌<◌, ℕ, List, IfOk, IsErr, IsSome, Some, length, map};
+ghost use Rattle.std.specs.Prelude.{slice_get};
 ghost use Rattle.trees.specs.Judgements.{Judgement};
 ghost use Rattle.resolver.specs.Resolved.{defs_in};
 ghost use Rattle.edge.specs.Seen.{seen_files};
+ghost use Rattle.module_texts.specs.Texts.{text_of};
 ghost use Rattle.linking.specs.Linked.{IsLinked};
 ghost use Rattle.book_writer.specs.Written.{IsWritten, concluded_by};
 ghost use Rattle.session.specs.Checks.{IsChecked, IsRefusedAt, MayCheck, MayLeave, Place, Stores};
 ghost use Rattle.session.specs.Checks.{nodes_of, places};
+ghost use Rattle.session.specs.Loaded.{texts_of};
 ghost use Rattle.session.specs.Outcomes.{IsCounted};
 
 use crate::outcome::Outcome;
@@ -74,9 +77,9 @@ fn derive(alloc: Global, defs: &[CodeDef]) -> Result<Found, AllocError>
 
 /// The module that holds the definition at this place among those of all modules.
 fn holder(texts: &[ModuleText], place: usize) -> &ModuleText
-    requires { place < length (places texts.now) }
-    ensures { (at : Place) × (slice_get (places texts.now) place ≡ Some at)
-        × (at.holder ≡ result.now) }
+    requires { place < length (places (map text_of texts.now)) }
+    ensures { (at : Place) × (slice_get (places (map text_of texts.now)) place ≡ Some at)
+        × (at.holder ≡ text_of result.now) }
 {
     let mut number = 0;
     let mut left = place;
@@ -92,9 +95,9 @@ fn holder(texts: &[ModuleText], place: usize) -> &ModuleText
 
 /// Refuses the definition at this place among those of all modules, at its name.
 fn not_direct(alloc: Global, program: &Program, place: usize) -> Result<Outcome, AllocError>
-    requires linked { IsLinked program.now.texts.items program.now.codes }
+    requires linked { IsLinked (texts_of program.now) program.now.codes }
     requires within { place < length (defs_in program.now.codes) }
-    ensures { IfOk result (IsRefusedAt program.now.texts.items place) }
+    ensures { IfOk result (IsRefusedAt (texts_of program.now) place) }
 {
     let name = program.codes.as_slice()[place].name;
     let path = path_of(alloc, holder(&program.texts, place).name.as_str())?;

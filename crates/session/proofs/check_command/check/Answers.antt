@@ -1,7 +1,7 @@
 use Rattle.std.proofs.Common.{◌≡◌, ◌<◌, [], ap, subst, length, refl, Some}
 use Rattle.edge.specs.Seen.{SeenFiles, seen_files}
 use Rattle.direct.specs.Direct.{other_place}
-use Rattle.session.specs.Loaded.{IsProgram, IsRead}
+use Rattle.session.specs.Loaded.{IsProgram, IsRead, texts_of}
 use Rattle.session.specs.Checks.{IsChecked, IsDerived, Stores}
 use Rattle.session.proofs.PlaceLaws.{other_inside}
 use Rattle.session.proofs.CheckLaws.{check_derived, check_refused, is_derived, leave_derived, same_files}
@@ -10,7 +10,7 @@ use Rattle.session.proofs.check_command.check.Goals as goal
 use Rattle.session.proofs.check_command.check.Goals.{After-store, After-as_slice-defs}
 
 -- the module was read, and nothing else was done to the files
-read : (g : Over) (c : After-as_slice-defs g) → let see = seen_files g.F.Files.held g.F.Files.counts in IsRead (g.F.Files.held c.args.files.now) c.args.name.now c.in-Ok.program × (see c.read_program.new.files ≡ see c.args.files.now)
+read : (g : Over) (c : After-as_slice-defs g) → let see = seen_files g.F.Files.held g.F.Files.counts in IsRead (g.F.Files.held c.args.files.now) c.args.name.now (texts_of c.in-Ok.program) c.in-Ok.program.codes × (see c.read_program.new.files ≡ see c.args.files.now)
 read g c =
     let see = seen_files g.F.Files.held g.F.Files.counts in
     let p = subst (IsProgram c.args.name.now (see c.args.files.now) (see c.read_program.new.files)) c.in-Ok.is c.in_ok-program.ensures.program in

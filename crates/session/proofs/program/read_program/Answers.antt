@@ -1,9 +1,12 @@
-use Rattle.std.proofs.Common.{◌≡◌, ◌<◌, ◌∙◌, ap, subst, length, slice_get, Some, inl, inr}
+use Rattle.std.proofs.Common.{◌≡◌, ◌<◌, ◌∙◌, ap, subst, length, map, slice_get, Some, inl, inr}
+use Rattle.std.specs.Option.{option_map}
+use Rattle.std.proofs.lemmas.List.{length-map}
 use Rattle.edge.specs.Seen.{seen_files}
-use Rattle.module_texts.specs.Texts.{path_of}
+use Rattle.module_texts.specs.Texts.{path_of, text_of}
 use Rattle.loading.specs.Texts.{CountsAfter}
 use Rattle.linking.specs.Modules.{RefusedFirst}
 use Rattle.session.proofs.LoadedLaws.{load_counted, scope_counted, is_told, stands_at}
+use Rattle.session.proofs.PlaceLaws.{get_map}
 use Rattle.session.proofs.program.read_program.Goals as goal
 
 pub returns-in-Err-clause-program : goal.returns-in-Err-clause-program
@@ -25,13 +28,14 @@ returns-in_ok-of_scope-in-Err-link-clause-program g c =
     let told = c.in_ok-of_scope-in-Err-link.field-0 in
     let is = c.in_ok-of_scope-in-Err-link.ensures in
     let path = c.in_ok-path-in-Err-link.path in
-    let refuses : RefusedFirst xs at f = subst (λ ts. RefusedFirst ts at f) c.deref.ensures.value c.in-Err-link.ensures.err in
-    let within : at < length xs = refuses.within in
-    let there : slice_get xs at ≡ Some c.index.result.now = stands_at xs at c.index.result.now within c.index.ensures in (
+    let refuses : RefusedFirst (map text_of xs) at f = subst (λ ts. RefusedFirst (map text_of ts) at f) c.deref.ensures.value c.in-Err-link.ensures.err in
+    let within : at < length xs = subst (λ n. at < n) (length-map xs text_of) refuses.within in
+    let there : slice_get (map text_of xs) at ≡ Some (text_of c.index.result.now) =
+    get_map text_of xs at ∙ ap (option_map text_of) (stands_at xs at c.index.result.now within c.index.ensures) in (
       inr (record {
-        texts = xs;
+        texts = map text_of xs;
         loaded = c.in-Ok.ensures.ok;
-        refused = c.index.result.now;
+        refused = text_of c.index.result.now;
         at = at;
         refused_is = there;
         fault = f;
