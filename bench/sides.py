@@ -7,6 +7,7 @@ A line tells the microseconds a node, of the best of three runs, the reading of 
 nodes left out.
 """
 
+import itertools
 import os
 import pathlib
 import sys
@@ -101,6 +102,38 @@ def shared(count):
     return rows, [f"n sub.form {ctx} {sub} {ctx} {formula} {identity}"] * count
 
 
+def new_faces(rows, count):
+    """So many faces over a context of sixteen names, no two of them one: three equations each."""
+    ends = [rows.tree(end, rows.tree("var", k)) for k in range(16) for end in ("eq0", "eq1")]
+    for first, second, third in itertools.islice(itertools.combinations(ends, 3), count):
+        yield rows.tree("meet", rows.tree("meet", first, second), third)
+
+
+def new_systems(count):
+    """`sys.ty` over two faces that are new each time, with the rows that it stands on"""
+    def is_type(ctx, node):
+        return rows.row("n", "ty.u", ctx, nat, rows.row("n", "nat.u", ctx, node))
+
+    def under(ctx, node, face):
+        inner = rows.row("c", "face", ctx, face)
+        return inner, rows.row("n", "ctx.face", ctx, face, node)
+
+    rows = Rows()
+    nat, true = rows.tree("nat"), rows.tree("f1")
+    ctx, node = named_context(rows, 16)
+    known = Rows()
+    known.lines, known.numbers = list(rows.lines), dict(rows.numbers)
+    faces = new_faces(rows, 2 * count)
+    for p, q in zip(faces, faces):
+        p = rows.tree("join", true, p)
+        left, right = under(ctx, node, p), under(ctx, node, q)
+        both = under(*left, q)
+        same = rows.row("n", "tyeq.refl", both[0], nat, is_type(*both))
+        parts = (ctx, p, q, nat, nat, is_type(*left), is_type(*right), same)
+        rows.row("n", "sys.ty", *parts)
+    return known, rows.lines[len(known.lines):]
+
+
 def seconds(program, path, lines):
     """The least seconds of three runs on a file of these lines."""
     path.write_text("".join(line + "\n" for line in lines))
@@ -116,7 +149,8 @@ def main():
     program = os.path.abspath(sys.argv[1])
     with tempfile.TemporaryDirectory() as folder:
         path = pathlib.Path(folder, "sides.drv")
-        for shape, count in ((is_face, 2000), (holds, 2000), (twenty_faces, 1000), (shared, 200)):
+        for shape, count in ((is_face, 2000), (holds, 2000), (twenty_faces, 1000), (shared, 200),
+                             (new_systems, 2000)):
             rows, nodes = shape(count)
             spent = seconds(program, path, rows.lines + nodes) - seconds(program, path, rows.lines)
             about = shape.__doc__.splitlines()[0]
