@@ -1,11 +1,12 @@
 #!/usr/bin/env python3
 """Measures what the gate costs, crate by crate: processor minutes for code, for tests and for
-refused edits.
+refused edits, child processes included.
 
-Runs `rt ci`, or watches one that runs already, and reads from /proc twice a second what each prover
-under it has taken. A prover with `--test` proves tests; one in a crate's folder proves code; one in
-a copy of its own tries an edit. Other work on the machine makes the minutes a little more than they
-are alone. Where the script is interrupted it prints what it has read so far. It needs Linux,
+Runs `rt ci`, or watches one that runs already, and reads from /proc twice a second what each
+process that names a crate has taken, with the processes below it, those that ended included. One
+with `--test` proves tests; one in the crate's folder proves code; one in a copy of its own tries an
+edit. A line a crate is printed at the end, the dearest first, or when the script is interrupted.
+Other work on the machine makes the minutes a little more than they are alone. It needs Linux,
 Python 3 and `rt`.
 """
 
@@ -16,6 +17,7 @@ import subprocess
 import time
 
 TICK = os.sysconf("SC_CLK_TCK")
+KINDS = ["code", "tests", "edits"]
 
 
 def read(pid, name):
@@ -27,21 +29,20 @@ def read(pid, name):
 
 
 def processes():
-    """The parent and the processor seconds of each process, its children that ended included."""
-    found = {}
-    for pid in filter(str.isdigit, os.listdir("/proc")):
+    """The processes by their parents, and the processor seconds of each, those of its children that
+    ended included."""
+    children, seconds = collections.defaultdict(list), {}
+    for pid in map(int, filter(str.isdigit, os.listdir("/proc"))):
         stat = read(pid, "stat").rpartition(b")")[2].split()
         if stat:
-            found[int(pid)] = int(stat[1]), sum(map(int, stat[11:13])) / TICK
-    return found
+            children[int(stat[1])].append(pid)
+            seconds[pid] = sum(map(int, stat[11:15])) / TICK
+    return children, seconds
 
 
-def below(root, found):
-    """The processes under this one."""
-    children = collections.defaultdict(list)
-    for pid, (parent, _) in found.items():
-        children[parent].append(pid)
-    waiting, under = [root], []
+def below(pid, children):
+    """A process and those under it."""
+    waiting, under = [pid], []
     while waiting:
         pid = waiting.pop()
         under.append(pid)
@@ -50,7 +51,8 @@ def below(root, found):
 
 
 def work_of(pid):
-    """The crate that a prover works at, and whether at code, tests or an edit; None for others."""
+    """The crate that a command names, and whether it is at code, tests or an edit; None for
+    others."""
     words = read(pid, "cmdline").decode(errors="replace").split("\0")
     if "--crate-name" not in words:
         return None
@@ -64,31 +66,39 @@ def work_of(pid):
     return name, "code" if folder.endswith(f"/crates/{name}") else "edits"
 
 
+def look(root, read_so_far):
+    """Notes what each process under this one has taken that names a crate, and that none above it
+    does."""
+    children, seconds = processes()
+    waiting = list(children[root])
+    while waiting:
+        pid = waiting.pop()
+        work = work_of(pid)
+        if work:
+            taken = sum(seconds.get(each, 0) for each in below(pid, children))
+            read_so_far[work, pid] = max(taken, read_so_far.get((work, pid), 0))
+        else:
+            waiting += children[pid]
+
+
 def watch(root, running):
-    """The processor seconds of each crate and kind of work under this process, until it has ended
-    or this script is interrupted.
-    """
-    seconds = {}
+    """The seconds of each crate and kind of work under this process, until it has ended or this
+    script is interrupted."""
+    read_so_far = {}
     try:
         while running():
-            found = processes()
-            for pid in below(root, found):
-                work = work_of(pid)
-                if work and pid in found:
-                    seconds[work, pid] = found[pid][1]
+            look(root, read_so_far)
             time.sleep(0.5)
     except KeyboardInterrupt:
         pass
     whole = collections.Counter()
-    for (work, _), taken in seconds.items():
+    for (work, _), taken in read_so_far.items():
         whole[work] += taken
     return whole
 
 
-def minutes_of(whole, name, kind):
-    """The minutes of a kind of work at a crate, or at all of them."""
-    return sum(taken for (crate, of), taken in whole.items()
-               if of == kind and name in (crate, "all")) / 60
+def line(name, minutes):
+    return f"{name:<20}" + "".join(f"{taken:>8.1f}" for taken in [*minutes, sum(minutes)])
 
 
 def main():
@@ -101,12 +111,12 @@ def main():
     else:
         run = subprocess.Popen(["rt", "ci"])
         whole = watch(run.pid, lambda: run.poll() is None)
-    names = sorted({name for name, _ in whole})
-    kinds = ["code", "tests", "edits"]
-    print(f"{'crate':<20}" + "".join(f"{kind:>8}" for kind in kinds) + f"{'all':>8}")
-    for name in names + ["all"]:
-        minutes = [minutes_of(whole, name, kind) for kind in kinds]
-        print(f"{name:<20}" + "".join(f"{taken:>8.1f}" for taken in minutes + [sum(minutes)]))
+    names = {name for name, _ in whole}
+    minutes = {name: [whole[name, kind] / 60 for kind in KINDS] for name in names}
+    print(f"{'crate':<20}" + "".join(f"{kind:>8}" for kind in [*KINDS, "all"]))
+    for name in sorted(names, key=lambda name: -sum(minutes[name])):
+        print(line(name, minutes[name]))
+    print(line("all", [sum(column) for column in zip(*minutes.values())] or [0, 0, 0]))
 
 
 if __name__ == "__main__":

@@ -9,8 +9,8 @@ there but something else at their paths. What must hold of each:
 - What is printed and the status are as the case says. Where memory is short, they are the ordinary
   ones, or nothing and status 5.
 - At the path of the derivation stands what stood there before, or the whole derivation, as the case
-  says; where the store failed, the first part of one, which `replay --of` refuses. Every other file
-  is as it was.
+  says. Every other file is as it was, whatever links there are, and nothing new is left over.
+- No run takes more memory than the longest text does.
 
 A build with AddressSanitizer, as that of `rt try`, has its memory limited by that, any other by
 `ulimit -v`. What can't be set up, as a mount or a user who may run the program, is left out, and
@@ -27,6 +27,8 @@ from running import Program, Wrong, hold
 
 EXAMPLES = pathlib.Path(__file__).resolve().parent.parent / "examples"
 OLD = b"what stood here before\n"
+PEAK = 1500  # megabytes that a run may take, with a sanitizer
+LONG = 1 << 26  # bytes of a file that is told by its size alone
 NOBODY = {"user": 65534, "group": 65534, "extra_groups": []}
 
 YES = ("yes: 2 definitions\n", 0)
@@ -35,14 +37,19 @@ UNSTORED = ("fault: WriteFault\n", 3)
 DEEP = ("yes: 20001 rows, 0 roots\n", 0)
 CUT = ("", 3)
 NO_MEMORY = ("", 5)
+TOO_LONG = ("no: TooLong in First.ctt\n", 1)
 
 # What is typed, after what is set up, and what it may print and end with. Then what stands at the
-# path of a derivation that it stores: `old`, `whole`, either of these, `part` of one, or `open`.
+# path of a derivation that it stores: `old`, `whole`, either of these, `none`, or `open`.
 Case = collections.namedtuple("Case", "name first typed may stored")
 
 
 def missing(path):
     return (f"no: MissingFile in {path}\n", 1)
+
+
+def sanitizer(option, size):
+    return f"export ASAN_OPTIONS=allocator_may_return_null=1:{option}={size}"
 
 
 def case(name, first, typed, *may, stored="old"):
@@ -72,18 +79,45 @@ READS = [
     case("a path through a file", "", "ctt replay two.drv/x", UNREAD),
     case("a path too long", "", "ctt replay $(printf %05000d 1)", UNREAD),
     case("a file that can't be read", "", "ctt replay /proc/self/mem", UNREAD),
-    case("a device without bytes", "", "ctt replay /dev/null", ("no: row 0\n", 1)),
+    case("a device without bytes", "", "ctt replay /dev/null", UNREAD),
+    case("a device without end", "", "ctt replay /dev/zero", UNREAD),
+    case("a device for a module", "ln -sf /dev/zero First.ctt", "ctt check First", UNREAD),
+    case("a named pipe for a file", "mkfifo pipe", "ctt replay pipe", UNREAD),
+    case("a named pipe for a module", "rm First.ctt; mkfifo First.ctt", "ctt check First", UNREAD),
+    case("a named pipe for an import", "rm Pairs.ctt; mkfifo Pairs.ctt", "ctt check Imports",
+         UNREAD),
+    case("a module of 3 GB", "truncate -s 3G First.ctt", "ctt check First", TOO_LONG),
+    case("a module that is too long by a byte", "truncate -s 16777217 First.ctt",
+         "ctt replay two.drv --of First", TOO_LONG),
+    case("a file of 4 TB", "test $(cat /proc/sys/vm/overcommit_memory) != 1; truncate -s 4T big",
+         f"{sanitizer('max_allocation_size_mb', 4096)}; ctt replay big 2> /dev/null", NO_MEMORY),
+    case("a path of two lines", "", "ctt replay 'x\nyes: 1 rows, 0 roots'",
+         missing("x\nyes: 1 rows, 0 roots")),
     case("words that are no text", "", "ctt check $(printf '\\377') > /dev/null", ("", 2)),
 ]
 
 STORES = [
     case("a folder at the path", "rm First.drv; mkdir First.drv", "ctt check First", UNSTORED,
-         stored="open"),
-    case("a full disk", "ln -sf /dev/full First.drv", "ctt check First", UNSTORED, stored="open"),
-    case("a link into no folder", "ln -sf none/x First.drv", "ctt check First", UNSTORED,
-         stored="open"),
-    case("files may not be long", "", "trap '' XFSZ; ulimit -f 1; ctt check Pairs", UNSTORED,
-         stored="part"),
+         stored="none"),
+    case("a named pipe at the path", "rm First.drv; mkfifo First.drv", "ctt check First", UNSTORED,
+         stored="none"),
+    case("a device at the path", "rm First.drv; mknod First.drv c 1 3", "ctt check First", UNSTORED,
+         stored="none"),
+    case("a link to a device", "ln -sf /dev/full First.drv", "ctt check First", YES,
+         stored="whole"),
+    case("a link into no folder", "ln -sf none/x First.drv", "ctt check First", YES,
+         stored="whole"),
+    case("a link to the text", "ln -sf First.ctt First.drv", "ctt check First", YES,
+         stored="whole"),
+    case("a second name of an import", "ln -f Pairs.ctt Imports.drv", "ctt check Imports",
+         ("yes: 25 definitions\n", 0), stored="whole"),
+    case("left over by a check that was killed", "echo left > .ctt-0", "ctt check First", YES,
+         stored="whole"),
+    case("a full disk", "unshare -m true; mkdir small", "unshare -m sh -c 'mount -t tmpfs "
+         "-o size=64k none small && cp Pairs.ctt small && cd small && cat /dev/zero > zeros 2> "
+         "/dev/null; \"$0\" check Pairs; r=$?; test $(ls -A | wc -l) = 2 || r=9; exit $r' "
+         "\"$program\"", UNSTORED),
+    case("files may not be long", "", "trap '' XFSZ; ulimit -f 1; ctt check Pairs", UNSTORED),
     case("a file that may not change", "chattr +i First.drv", "ctt check First; r=$?; "
          "chattr -i First.drv; exit $r", UNSTORED),
     case("a folder to be read only", "unshare -m true", "unshare -m sh -c 'mount --bind . . && "
@@ -107,6 +141,7 @@ LEAVES = [
     case("no leave to write a file", "chmod 444 First.drv", "ctt check First", UNSTORED),
     case("no leave to make a file", "rm First.drv; chmod 555 .", "ctt check First", UNSTORED,
          stored="none"),
+    case("no leave to make one beside", "chmod 555 .", "ctt check First", UNSTORED),
     case("no leave to enter a folder", "mkdir in; cp two.drv in; chmod 000 in",
          "ctt replay in/two.drv; r=$?; chmod 755 in; rm -r in; exit $r", UNREAD),
 ]
@@ -118,7 +153,6 @@ HUNGRY = [
     ("ctt check Deep", YES),
     ("ctt replay two.drv --of Two", ("yes: 13 rows, 2 roots\n", 0)),
     ("ctt replay deep", DEEP),
-    ("ctt replay /dev/zero", NO_MEMORY),
     ("ctt replay none", missing("none")),
 ]
 
@@ -148,8 +182,14 @@ def files():
 
 def state(program):
     """The regular files of the folder."""
-    return {path.name: path.read_bytes() for path in program.at.iterdir()
+    return {path.name: told(path) for path in program.at.iterdir()
             if path.is_file() and not path.is_symlink()}
+
+
+def told(path):
+    """The bytes of a file, or the size of a long one."""
+    size = path.stat().st_size
+    return path.read_bytes() if size < LONG else size
 
 
 def type_in(program, first, typed, **how):
@@ -172,11 +212,8 @@ def hold_of_files(program, typed, before, stored):
         return
     whole = (EXAMPLES / path).read_bytes() if (EXAMPLES / path).exists() else None
     data = after.get(path)
-    is_so = {"old": data == before.get(path), "none": data is None, "whole": data == whole,
-             "part": data is not None and whole.startswith(data)}
+    is_so = {"old": data == before.get(path), "none": data is None, "whole": data == whole}
     hold(any(is_so[word] for word in stored.split(" or ")), "derivation", f"not {stored}: {data!r}")
-    if stored == "part" and data != whole:
-        hold(program.run("replay", path, "--of", module[1]).status == 1, "taken", f"{data!r}")
 
 
 def hold_of(program, one, **how):
@@ -186,6 +223,7 @@ def hold_of(program, one, **how):
         return False
     ran, before = typed
     hold((ran.text, ran.status) in one.may, "answer", f"{ran.text[:300]!r}, status {ran.status}")
+    hold(ran.peak < PEAK, "memory", f"{ran.peak} megabytes")
     hold_of_files(program, one.typed, before, one.stored)
     return True
 
@@ -202,10 +240,6 @@ def limits(program):
     least = next(size for size in range(1, 1000) if starts(sanitizer("soft_rss_limit_mb", size)))
     return [sanitizer("soft_rss_limit_mb", least + step) for step in [*range(12), 16, 24, 48]] + [
         sanitizer("max_allocation_size_mb", size) for size in range(1, 4)]
-
-
-def sanitizer(option, size):
-    return f"export ASAN_OPTIONS=allocator_may_return_null=1:{option}={size}"
 
 
 def short_of_memory(program):

@@ -10,13 +10,16 @@ or `by premise 0`, or `by given typing of 5`, what an earlier recipe gives that 
 
     number  by recipe fill parts of nodes
 
-The notation is that of `rules.txt`; a face of a context stands in braces, as in `G.{p}`. A
-judgement that the rule does not conclude at these parts, or a node that is none of its premises,
-ends the reading: both are compared in normal form, with the parts unknown.
+The notation is that of `rules.txt`; a face of a context stands in braces, as in `G.{p}`. Sources
+with `steps` in the place of `rows` are those of `named_recipes`. A judgement that the rule does not
+conclude at these parts, or a node that is none of its premises, ends the reading: both are compared
+in normal form, with the parts unknown.
 """
 import re
 
-from rule_notation import BINDS, DERIVED, KINDS, Reader, families, judgement
+from kan_things import FOUND, kan_thing
+from normal_forms import applied, form, sub_of, then, unknown
+from rule_notation import DERIVED, KINDS, Reader, families, judgement
 
 LINE = re.compile(r"(\w+)\s+(.*?)\s*by (\S+) ?(.*?)(?: of (.*))?$")
 
@@ -29,6 +32,10 @@ class Things(Reader):
         self.names = names
 
     def tree(self):
+        word = self.peek()
+        if word in FOUND and word not in self.names and word != "equiv":
+            self.take()
+            return kan_thing(word, [self.atom() for _ in FOUND[word][0]])
         return written_out(super().tree())
 
     def named(self, thing):
@@ -65,76 +72,6 @@ class Things(Reader):
         return {"Context": self.context, "Subst": self.substitution, "Term": self.atom}[kind]()
 
 
-# Normal forms, with the parts unknown. A substitution is a list of trees, the last pushed first,
-# and its end: a shift, or what is left of a part without its first entries, and then a
-# substitution.
-
-
-def look(sub, index):
-    pushed, end = sub
-    if index < len(pushed):
-        return pushed[index]
-    past = index - len(pushed)
-    if isinstance(end, int):
-        return ("var", past + end)
-    _, count, part, rest = end
-    return ("entry", part, past + count, trimmed(rest))
-
-
-def raised(sub):
-    """A substitution under one binder."""
-    pushed, end = then(sub, ((), 1))
-    return ((("var", 0),) + pushed, end)
-
-
-def applied(tree, sub):
-    if tree[0] == "var":
-        return look(sub, tree[1])
-    if tree[0] in ("part", "entry"):
-        return tree[:-1] + (trimmed(then(tree[-1], sub)),)
-    kids = []
-    for kid, binds in zip(tree[2], BINDS[tree[1]]):
-        under = sub
-        for _ in range(binds):
-            under = raised(under)
-        kids.append(applied(kid, under))
-    return ("make", tree[1], tuple(kids))
-
-
-def dropped(sub, count):
-    """A substitution without its first entries."""
-    pushed, end = sub
-    past = max(0, count - len(pushed))
-    if isinstance(end, int):
-        return (pushed[count:], end + past)
-    _, entries, part, rest = end
-    return (pushed[count:], ("rest", entries + past, part, rest))
-
-
-def then(first, second):
-    pushed, end = first
-    if isinstance(end, int):
-        rest, end = dropped(second, end)
-    else:
-        _, count, part, after = end
-        rest, end = (), ("rest", count, part, then(after, second))
-    return (tuple(applied(tree, second) for tree in pushed) + rest, end)
-
-
-def trimmed(sub):
-    """Without trees at the end that act as a smaller shift, or as more of a part."""
-    pushed, end = sub
-    if isinstance(end, int):
-        while pushed and end and pushed[-1] == ("var", end - 1):
-            pushed, end = pushed[:-1], end - 1
-        return (pushed, end)
-    _, count, part, rest = end
-    rest = trimmed(rest)
-    while pushed and count and pushed[-1] == ("entry", part, count - 1, rest):
-        pushed, count = pushed[:-1], count - 1
-    return (pushed, ("rest", count, part, rest))
-
-
 # Trees that are made of others, written out.
 
 
@@ -155,6 +92,8 @@ def written_out(thing):
         return replaced(Reader(text).tree(), dict(zip(parts, thing[2])))
     if thing[:2] == ("called", "equiv"):
         return replaced(EQUIV, dict(zip("TA", thing[2])))
+    if thing[0] == "called":
+        return kan_thing(thing[1], thing[2])
     return thing
 
 
@@ -163,46 +102,55 @@ EQUIV = Things("sig (pi T A+) (pi A+ (sig F (pi F+ (pathp F[shift 3] (var 1) (va
                {"F": Things(FIBER, {}).tree()}).tree()
 
 
+class Normals:
+    """The normal forms of things, where parts are these normal forms."""
+
+    def __init__(self, at):
+        self.at, self.found = at, {}
+
+    def of(self, thing):
+        found = self.found.get(id(thing))
+        if found is None:
+            # the thing is kept with its normal form, so that no other takes its place
+            found = self.found[id(thing)] = (thing, self.normal(thing))
+        return found[1]
+
+    def normal(self, thing):
+        word, *rest = thing
+        if word == "part":
+            return self.at[rest[0]]
+        if word == "var":
+            return form("var", rest[0])
+        if word == "make":
+            return form("make", rest[0], tuple(self.of(kid) for kid in rest[1]))
+        if word in ("derived", "called"):
+            return self.of(written_out(thing))
+        if word == "weakened":
+            return applied(self.of(rest[0]), sub_of((), 1))
+        if word == "at":
+            return applied(self.of(rest[0]), sub_of((self.of(rest[1]),), 0))
+        if word == "apply":
+            return applied(self.of(rest[0]), self.of(rest[1]))
+        if word in ("id", "up", "shift"):
+            return sub_of((), rest[0] if rest else ("id", "up").index(word))
+        if word == "push":
+            pushed, end = self.of(rest[0]).rest
+            return sub_of((self.of(rest[1]),) + pushed, end)
+        if word == "then":
+            return then(self.of(rest[0]), self.of(rest[1]))
+        return form(word, *(self.of(part) for part in rest))
+
+    def judgement(self, said):
+        word, places = said
+        return (word, [self.of(place) for place in places])
+
+
 def normal(thing, at):
-    """The normal form of a thing, where parts are these normal forms."""
-    word, *rest = thing
-    if word == "part":
-        return at[rest[0]]
-    if word == "var":
-        return ("var", rest[0])
-    if word == "make":
-        return ("make", rest[0], tuple(normal(kid, at) for kid in rest[1]))
-    if word in ("derived", "called"):
-        if written_out(thing) == thing:
-            raise ValueError(f"{rest[0]} is not written out")
-        return normal(written_out(thing), at)
-    if word == "weakened":
-        return applied(normal(rest[0], at), ((), 1))
-    if word == "at":
-        return applied(normal(rest[0], at), ((normal(rest[1], at),), 0))
-    if word == "apply":
-        return applied(normal(rest[0], at), normal(rest[1], at))
-    if word in ("id", "up", "shift"):
-        return ((), {"id": 0, "up": 1}.get(word, rest[0] if rest else 0))
-    if word == "push":
-        sub = normal(rest[0], at)
-        return ((normal(rest[1], at),) + sub[0], sub[1])
-    if word == "then":
-        return then(normal(rest[0], at), normal(rest[1], at))
-    return (word,) + tuple(normal(part, at) for part in rest)
+    return Normals(at).of(thing)
 
 
 def normal_judgement(said, at):
-    form, places = said
-    return (form, [normal(place, at) for place in places])
-
-
-def unknown(parts):
-    """The parts themselves, unknown."""
-    kinds = {"Term": lambda part: ("part", part, ((), 0)),
-             "Subst": lambda part: ((), ("rest", 0, part, ((), 0))),
-             "Context": lambda part: ("ctx", part)}
-    return {part: kinds[KINDS.get(part, "Term")](part) for part in parts}
+    return Normals(at).judgement(said)
 
 
 class Node:
@@ -223,23 +171,27 @@ class Recipe:
     def __init__(self, text, earlier=None):
         self.earlier = earlier or {}
         self.rules = {rule.name: rule for family in families() for rule in family.rules}
-        sections = re.split(r"^(from|if|let|rows|gives|premises)\b", text, flags=re.M)
+        sections = re.split(r"^(from|if|let|rows|steps|gives|premises)\b", text, flags=re.M)
         head, sections = sections[0], dict(zip(sections[1::2], sections[2::2]))
         about, _, head = head.strip().rpartition("\n")
         self.about = [line.lstrip("# ") for line in about.splitlines()]
         self.name, parts = (part.strip() for part in head.split("|"))
         self.parts, self.names = parts.split(), {}
+        self.premises = [line.split() for line in lines(sections.get("premises", ""))]
+        self.read(sections)
+
+    def read(self, sections):
         for line in lines(sections.get("let", "")):
             name, _, said = line.partition(" = ")
             self.names[name] = self.thing(said)
         self.read_rows(sections)
-        self.premises = [line.split() for line in lines(sections.get("premises", ""))]
         said = {node.name: node.text for node in self.nodes}
         self.gives = {label: self.judgement(said[name]) for label, name in self.outs}
         self.check()
 
     def read_rows(self, sections):
         self.wants = [self.judgement(line) for line in lines(sections["from"])]
+        self.sides = lines(sections.get("if", ""))
         self.nodes = [self.node(line) for line in lines(sections["rows"])]
         self.outs = [line.split() for line in lines(sections["gives"])]
 
@@ -249,6 +201,17 @@ class Recipe:
 
     def kinds(self):
         return [KINDS.get(part, "Term") for part in self.parts]
+
+    def binders(self):
+        """How many entries each part stands under, where it is first typed."""
+        under = {}
+        for form, places in self.wants:
+            if form in ("Ty", "Tm") and places[1][0] == "part":
+                under.setdefault(places[1][1], entries(places[0]))
+        for side in self.sides:
+            over, _, part = side[:-1].partition("(")[2].partition(", ")
+            under.setdefault(part, entries(self.thing(over)))
+        return [under.get(part, 0) for part in self.parts]
 
     def judgement(self, said):
         return judgement(Things(said, self.names))
@@ -283,24 +246,32 @@ class Recipe:
 
     def check(self):
         """Whether each node is what its line says."""
-        at, said, given = unknown(self.parts), {}, {}
+        here, said, given = Normals(unknown(self.parts)), {}, {}
+        self.normals, self.said = here, said
         for node in self.nodes:
             if node.text:
-                said[node.name] = normal_judgement(self.judgement(node.text), at)
+                said[node.name] = here.judgement(self.judgement(node.text))
             if node.word == "premise":
-                gives = normal_judgement(self.wanted(node), at)
+                gives = here.judgement(self.wanted(node))
             elif node.word == "given":
                 gives = given[node.premises[0]][node.at]
             else:
-                parts = dict(zip(node.rule.parts, (normal(part, at) for part in node.parts)))
-                wants = [normal_judgement(want, parts) for want in node.rule.wants]
+                there = Normals(dict(zip(node.rule.parts, map(here.of, node.parts))))
+                wants = [there.judgement(want) for want in node.rule.wants]
                 assert [said[name] for name in node.premises] == wants, (self.name, node.name)
                 if node.word == "recipe":
-                    given[node.name] = {label: normal_judgement(gives, parts)
+                    given[node.name] = {label: there.judgement(gives)
                                         for label, gives in node.rule.gives.items()}
                     continue
-                gives = normal_judgement(node.rule.gives, parts)
+                gives = there.judgement(node.rule.gives)
             assert said[node.name] == gives, (self.name, node.name, node.text, gives)
+
+
+def entries(ctx):
+    """How many variables and names a context has."""
+    if ctx[0] in ("with_name", "with_var"):
+        return entries(ctx[1]) + 1
+    return entries(ctx[1]) if ctx[0] == "with_face" else 0
 
 
 def lines(section):

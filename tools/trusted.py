@@ -27,6 +27,10 @@ LAYERS = [line.split(":")[0] for line in (ROOT / "crates.txt").read_text().split
 START = [("ctt/src/main.rt", "run_to_end"), ("edge/src/files.rt", "Files"),
          ("edge/src/streams.rt", "Source"), ("edge/src/streams.rt", "Sink")]
 
+# Laws on what the contract speaks of, which exclude that an answer means two things.
+LAWS = [("session/src/outcome.rt", "answers_exclude_each_other"),
+        ("determined/src/lib.rt", "texts_determine_directness")]
+
 # The parts of the contract, each with the names of definitions that only later parts need.
 OF_CHECK = {"MayCheck", "MayLeave"}
 OF_MODULES = {"MayReplayOf", "is_module_name", "refusal_text"}
@@ -198,9 +202,9 @@ def cited(of):
         yield from (known[name] for name in known if "◌" in name and name.strip("◌") in clause)
 
 
-def reached(stops):
-    """The pieces that are reached where these names are not followed."""
-    found, waiting = set(), list(START)
+def reached(stops, start=START):
+    """The pieces that are reached from these where the names in `stops` are not followed."""
+    found, waiting = set(), list(start)
     while waiting:
         path, name = waiting.pop()
         for each in pieces(path):
@@ -284,11 +288,49 @@ definitions of each file.
 
 The parts are to be read one after another, and the files of a part in the order in which they
 stand; `crates` is left out before their names. *Lines* are those of the definitions that are
-needed, with their comments and without blank ones; *Of* is the length of the file. A file stands
-in each part that is the first to need some of it. Of code (`.rt`) the types count, and the
-contracts of `run_to_end` and of the traits `Files`, `Source` and `Sink`, which are asked of what it
-is handed.
+needed, with their comments, and without blank ones and the `use` lines at the head of a file, which
+say where each name is from; *Of* is the length of the file. A file stands in each part that is the
+first to need some of it. Of code (`.rt`) the types count, and the contracts of `run_to_end` and of
+the traits `Files`, `Source` and `Sink`, which are asked of what it is handed.
+
+The rules and the trees in `rules/specs/Table` are those of Cubical Type Theory as in the paper by
+Cohen, Coquand, Huber and Mörtberg; `docs/RULES.md` says which rules are this project's own. Of the
+trees one is: `eqv`, the equivalence that transport along a line of types is, was made for this
+project after the paper's section on composition for the universe, and so is not to be compared with
+it piece by piece. The trees of the Kan operations stand there with indices that are shifted by
+hand. Whoever had rather read them with bound names reads `stability/specs/Named.antt` in their
+place: `stability::trees_are_named` says that they are the same.
 """
+
+WHAT_IS_LEFT = """\
+Of these, a rule has one line in `theory/src/rule.rt`, one in `theory/specs/RuleNames` and one to
+four in the table. Three things are said more than once, or at a remove:
+
+- The operators, `fill`, `cover` and `body` stand in `rules/specs/Table` for every language, and in
+  `translation/specs` at trees (about 100 lines). `translation` and the crates that stand on it and
+  not on `rules` would be proved anew with each new rule if they were one.
+- The lexer, the parser, the resolver and the loader have each their own causes of refusal, which
+  the lines `told_` carry to those that are printed (about 100 lines).
+- What `check` means is said of codes and their shapes, which lie between a text and what is direct,
+  and not of the text (about 800 lines).
+"""
+
+HEAD_OF_LAWS = """\
+These laws are proved of what the contract speaks of, and no answer of the program rests on them.
+`answers_exclude_each_other` says that there is one verdict on a file (`OneVerdict`), and one answer
+of a replay and of a check where it is told what is held (`OneAnswer`, `OneCheck`). The contract
+tells the place of `RefusedForm` at a definition by codes that the texts become:
+`texts_determine_directness` says that all such codes give one place. The lines are those that the
+laws need besides.
+"""
+
+
+def laws(number):
+    """The section on laws, its first row with this number."""
+    files = by_file(reached(set(), START + LAWS) - reached(set()))
+    yield from ["", f"## Laws: {sum(map(count, files.values())):,} lines", ""]
+    yield from HEAD_OF_LAWS.splitlines() + [""]
+    yield from table(files, number)
 
 
 def page():
@@ -310,6 +352,9 @@ def page():
     for used in sorted(names):
         words = f"- `{used}`: " + ", ".join(f"`{name}`" for name in sorted(names[used]))
         yield from textwrap.wrap(words, 98, subsequent_indent="  ", break_on_hyphens=False)
+    yield from ["", "## Where they go", ""]
+    yield from WHAT_IS_LEFT.splitlines()
+    yield from laws(number)
 
 
 def main(words):

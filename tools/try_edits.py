@@ -2,14 +2,19 @@
 """Tries edits that the prover must refuse and that the gate does not try:
 tools/edits/CRATE/NAME.edit.
 
-    tools/try_edits.py [CRATE ..]
+    tools/try_edits.py                 says of each edit whether it can be applied, in no time: the
+                                       text that it changes stands exactly once in its file
+    tools/try_edits.py CRATE ..        tries those of some crates
+    tools/try_edits.py --changed REV   those of the crates that differ from a revision
+    tools/try_edits.py --all           all of them, which takes hours
 
-Without words it says of each edit whether it can be applied, which takes no time: the text that it
-changes stands exactly once in its file. With words it makes a copy of the repository's crates in
-which these edits stand in place of those of the gate, and runs `rt must-fail` there, which proves
-what stands below each crate first. The copy is thrown away afterwards. It needs Python 3 and `rt`.
+It makes a copy of the repository's crates in which these edits stand in place of those of the gate,
+and runs `rt ci CRATE ..` there, which proves and tries what no earlier run on this machine has: a
+crate's proof and its tests are kept by their text. The copy is thrown away afterwards. It needs
+Python 3 and `rt`.
 """
 
+import argparse
 import pathlib
 import shutil
 import subprocess
@@ -48,29 +53,59 @@ def lost():
     return [f"{edit.relative_to(ROOT)}: {why}" for edit, why in found if why]
 
 
+def with_edits():
+    """The crates that have edits here."""
+    return sorted(path.name for path in EDITS.iterdir())
+
+
+def changed(revision):
+    """Those of them that differ from a revision, in their files or in their edits."""
+    asked = ["git", "diff", "--name-only", revision, "--", "crates", "tools/edits"]
+    lines = subprocess.run(asked, cwd=ROOT, check=True, stdout=subprocess.PIPE, text=True).stdout
+    parts = [pathlib.PurePath(line).parts for line in lines.splitlines()]
+    found = {part[1] if part[0] == "crates" else part[2] for part in parts if len(part) > 2}
+    return [name for name in with_edits() if name in found]
+
+
 def tried(names):
-    """The status of `rt must-fail` on a copy where these crates have the edits of tools/edits."""
+    """The status of `rt ci` on a copy where these crates have the edits of tools/edits, and no
+    others have any."""
     with tempfile.TemporaryDirectory() as folder:
-        shutil.copy(ROOT / "crates.txt", folder)
-        shutil.copytree(ROOT / "crates", f"{folder}/crates", symlinks=True)
+        for name in ("crates.txt", "HANDLES"):
+            shutil.copy(ROOT / name, folder)
+        left_out = shutil.ignore_patterns("out", "must-fail")
+        shutil.copytree(ROOT / "crates", f"{folder}/crates", symlinks=True, ignore=left_out)
         for name in names:
-            own = pathlib.Path(folder, "crates", name, "must-fail")
-            shutil.rmtree(own, ignore_errors=True)
-            shutil.copytree(EDITS / name, own)
-        return subprocess.run(["rt", "must-fail", *names], cwd=folder).returncode
+            shutil.copytree(EDITS / name, f"{folder}/crates/{name}/must-fail")
+        return subprocess.run(["rt", "ci", *names], cwd=folder).returncode
 
 
-def main(names):
-    unknown = [name for name in names if not (EDITS / name).is_dir()]
-    if unknown:
-        sys.exit(f"no edits in tools/edits for: {' '.join(unknown)}")
-    if names:
-        sys.exit(tried(names))
+def applied():
+    """Whether all edits can be applied, once that is printed."""
     wrong = lost()
     print("".join(f"{line}\n" for line in wrong), end="")
     print(f"try_edits: {len(edits())} edits, {len(wrong)} that cannot be applied")
-    sys.exit(bool(wrong))
+    return not wrong
+
+
+def main():
+    form = argparse.RawDescriptionHelpFormatter
+    asked = argparse.ArgumentParser(description=__doc__, formatter_class=form)
+    asked.add_argument("crates", metavar="CRATE", nargs="*")
+    asked.add_argument("--changed", metavar="REV")
+    asked.add_argument("--all", action="store_true")
+    words = asked.parse_args()
+    names = with_edits() if words.all else words.crates
+    names = names + (changed(words.changed) if words.changed else [])
+    unknown = [name for name in names if not (EDITS / name).is_dir()]
+    if unknown:
+        sys.exit(f"no edits in tools/edits for: {' '.join(unknown)}")
+    if words.changed:
+        print(f"try_edits: of crates that differ from {words.changed}: {' '.join(names) or 'none'}")
+    if names:
+        sys.exit(tried(sorted(set(names))))
+    sys.exit(not applied())
 
 
 if __name__ == "__main__":
-    main(sys.argv[1:])
+    main()

@@ -1,21 +1,26 @@
 #!/usr/bin/env python3
-"""Runs the program, without proofs, on words and files, and compares what it prints and how it
-ends.
+"""Runs the program on words and files, and compares what it prints and how it ends.
 
-The one run that the gate makes of the program has no words, so this looks at how it reads them and
-the disk. `rt try --cases` builds the program once; each case is a file, the words with `{}` for its
-path, a line and a status. `rule_cases.py` has those of the rules, of which one in ten is tried, and
-all with the word `all`.
+    tools/try_program.py [PROGRAM]
+
+The runs that the gate makes of the program have no words, so this looks at how it reads them and
+the disk. Each case is a file, the words with `{}` for its path, a line and a status. PROGRAM is
+that which the gate has built, where none is given; on it the cases of each rule run too
+(`rule_cases.py`). A build without proofs, by `rt try`, runs one in ten of these.
 """
 import pathlib
+import shutil
 import subprocess
 import sys
 import tempfile
 
 import rule_cases
+import running
 
 ROOT = pathlib.Path(__file__).resolve().parent.parent
-TWO = (ROOT / "examples" / "two.drv").read_text()
+EXAMPLES = ROOT / "examples"
+PROGRAM = ROOT / "crates" / "ctt" / "out" / "ctt"
+TWO = (EXAMPLES / "two.drv").read_text()
 USAGE = (ROOT / "crates" / "ctt" / "stdout").read_text()
 YES = "yes: 13 rows, 2 roots\n"
 CASES = {
@@ -29,12 +34,55 @@ CASES = {
     "of_module": (TWO, ["replay", "{}", "--of", "none"], "no: MissingFile in none.ctt\n", 1),
     "checked": ("", ["check", "First"], "yes: 2 definitions\n", 0),
     "unchecked": ("", ["check", "data"], "no: MissingFile in data.ctt\n", 1),
-} | rule_cases.cases(1 if sys.argv[1:] == ["all"] else 10)
+}
 
 
-def lay_out(folder):
+def examples():
+    """The modules of the examples check, and their derivations replay as theirs."""
+    for module, count in {"First": 2, "Imports": 25, "Numbers": 9, "Pairs": 9, "Two": 1}.items():
+        path = "two.drv" if module == "Two" else f"{module}.drv"
+        lines = (EXAMPLES / path).read_text().splitlines()
+        roots = sum(line.startswith("r ") for line in lines)
+        line = f"yes: {len(lines)} rows, {roots} roots\n"
+        yield f"check_{module}", ("", ["check", module], f"yes: {count} definitions\n", 0)
+        yield f"replay_{module}", ("", ["replay", path, "--of", module], line, 0)
+
+
+def cases(one_in):
+    """All cases, with one in so many of those of the rules."""
+    return CASES | dict(examples()) | rule_cases.cases(one_in)
+
+
+def ends_so(program, case):
+    """Whether the program prints the line and ends with the status."""
+    text, words, line, status = case
+    with tempfile.TemporaryDirectory() as path:
+        folder = pathlib.Path(path, "examples")
+        shutil.copytree(EXAMPLES, folder)
+        (folder / "case").write_text(text)
+        words = [word.replace("{}", "case") for word in words]
+        ran = running.Program(program, folder).ran([program, *words])
+    return (ran.text, ran.status) == (line, status)
+
+
+def proved(program=PROGRAM):
+    """How many cases pass and fail on a program."""
+    tried = cases(1)
+    return told([name for name, case in tried.items() if not ends_so(program, case)], tried)
+
+
+def told(wrong, tried):
+    """How many cases passed and failed, once that is printed."""
+    passed, failed = len(tried) - len(wrong), len(wrong)
+    print(f"the program on words and files: {passed} passed, {failed} failed")
+    for name in wrong:
+        print(f"    {name}")
+    return passed, failed
+
+
+def lay_out(folder, tried):
     """Writes the cases as `rt try --cases` reads them."""
-    for name, (text, words, line, _) in CASES.items():
+    for name, (text, words, line, _) in tried.items():
         case = pathlib.Path(folder, name)
         case.write_text(text)
         case.with_suffix(".args").write_text("".join(word + "\n" for word in words))
@@ -49,23 +97,19 @@ def ended(said):
             if f.get("run") == "ended" and f.get("output") == "expected"}
 
 
-def main():
+def unproved():
+    """How many cases pass and fail on a build without proofs."""
+    tried = cases(10)
+    data = [word for path in sorted(EXAMPLES.iterdir()) for word in ("--data", f"{path.name}={path}")]
     with tempfile.TemporaryDirectory() as folder:
-        lay_out(folder)
-        module = f"First.ctt={ROOT / 'examples' / 'First.ctt'}"
-        ran = subprocess.run(["rt", "try", "--cases", folder, "--data", module],
-                             cwd=ROOT / "crates" / "ctt",
+        lay_out(folder, tried)
+        ran = subprocess.run(["rt", "try", "--cases", folder, *data], cwd=ROOT / "crates" / "ctt",
                              text=True, stdout=subprocess.PIPE, stderr=subprocess.STDOUT)
-    wanted = {name: status for name, (_, _, _, status) in CASES.items()}
     found = ended(ran.stdout)
-    wrong = [name for name, status in wanted.items() if found.get(name) != status]
-    if ran.returncode != 0 or wrong:
-        print(ran.stdout, end="")
-        print(f"try_program: wrong: {', '.join(wrong) or 'the run itself'}")
-        return 1
-    print(f"try_program: {len(wanted)} cases as wanted")
-    return 0
+    return told([name for name, (*_, status) in tried.items() if found.get(name) != status], tried)
 
 
 if __name__ == "__main__":
-    sys.exit(main())
+    if len(sys.argv) > 2:
+        sys.exit(__doc__.strip())
+    sys.exit(proved(*sys.argv[1:])[1] > 0)

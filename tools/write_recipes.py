@@ -1,13 +1,17 @@
 #!/usr/bin/env python3
-"""Writes the tables of recipes from `recipes/*.txt`, where each stands judgement by judgement.
+"""Writes the tables of recipes from `recipes/*.txt`: `python3 tools/write_recipes.py`.
 
-A table is a list of `recipes::Row`, with the judgements as comments. Nothing of it is trusted: the
-test of `recipes` runs over the table, and a wrong row fails the proof of its crate. Run `rt fmt` in
-that crate afterwards.
+A table is a list of `recipes::Row`, with the judgements of its source as comments. Nothing of it is
+trusted: the test of `recipes` runs over the table, and a wrong row fails the proof of its crate. A
+recipe that its crate does not name yet is given its `mod` and `pub use` lines there, and a function
+that claims `Derives` of a table the answer of its proof, if it has none. Run `rt fmt` in the crates
+that changed afterwards.
 """
 import pathlib
 import textwrap
 
+from named_recipes import NamedRecipe
+from recipe_answers import answers, with_modules
 from recipe_notation import Recipe
 from rule_notation import OPERATORS
 
@@ -16,6 +20,13 @@ ROOT = pathlib.Path(__file__).resolve().parent.parent
 # The recipes of each crate, and the earlier ones that a recipe may name, in the order of its proof.
 CRATES = {
     "kan_fill": ["fill", "contr", "pres", "ext"],
+    "glue_entries": ["equiv_tycong"],
+    "kan_types": ["comp_pi", "comp_sig", "comp_path", "comp_zero", "comp_suc"],
+    "kan_glue": ["glue_base", "glue_all", "extend", "reglue", "comp_glue"],
+    "kan_universe": [
+        "line", "back", "square", "cube", "eqv_uv", "eqv_m", "eqv_n", "eqv_w", "assemble", "eqv",
+        "comp_u",
+    ],
     "structural": [
         "lift_var", "lift_name", "lift_face", "swap_face", "swap_faces", "merge_faces",
         "restrict_ty0", "restrict_ty1", "restrict_tm0", "restrict_tm1", "cover_ty", "cover_tm",
@@ -37,7 +48,6 @@ CRATES = {
         "open_glue", "open_binder_u", "open_pathp_u", "open_glue_type_u", "up_var", "up_name",
         "up_face", "fits_pi", "fits_sig", "anchor", "anchor_conv", "beta_asks", "beta_answers",
     ],
-    "glue_entries": ["equiv_tycong"],
     "presupposed_tests": ["conversions", "pushed_entry", "made_and_used", "equal_numbers"],
     "book_tests": ["two", "successor", "constant", "twice", "variables"],
     "kan_tests": [
@@ -46,12 +56,24 @@ CRATES = {
     ],
     "behind_tests": ["glued"],
 }
+# Where several stand over the same, one list serves them all: a call then hands in one `Earlier`.
 EARLIER = {"pres": ["fill"], "ext": ["contr"]}
-EARLIER |= {name: CRATES["kan_fill"] for name in CRATES["kan_tests"]}
+GLUE_PARTS = ["glue_base", "glue_all", "extend", "reglue"]
+LINES = ["line", "back", "square", "cube"]
+EQUIVALENCE_PARTS = ["eqv_uv", "eqv_m", "eqv_n", "eqv_w", "assemble"]
+UNIVERSE_PARTS = ["eqv", "equiv_tycong"]
+OVER_KAN = [*CRATES["kan_types"], *GLUE_PARTS, *LINES, *CRATES["kan_tests"]]
+EARLIER |= {name: CRATES["kan_fill"] for name in OVER_KAN}
+EARLIER |= {"comp_glue": GLUE_PARTS, "comp_u": UNIVERSE_PARTS}
+EARLIER |= {name: LINES for name in EQUIVALENCE_PARTS}
+EARLIER |= {"eqv": EQUIVALENCE_PARTS}
 
 # The crates whose tables read the parts of a recipe from its premises, where these name them, so
 # that a call passes the others alone, which come first.
 READ = {"typing_rules", "literal_types", "literal_terms", "openings"}
+
+# The crates whose tables read things from what earlier nodes conclude, which takes fewer rows.
+LOOK = {"kan_types", "kan_glue", "kan_universe"}
 
 WIDTH = 100
 MOST_PARTS, MOST_WANTED, MOST_PREMISES, MOST_KIDS = 10, 7, 16, 4
@@ -61,16 +83,38 @@ def padded(numbers, count):
     return f"[{', '.join(str(number) for number in numbers + [0] * (count - len(numbers)))}]"
 
 
-class Table:
-    """The rows of a recipe. A thing has one row, which stands before the first that names it."""
+class Things(dict):
+    """The rows of things, by the things themselves, each of which is one object."""
 
-    def __init__(self, recipe, earlier=(), reads=False):
+    def __contains__(self, thing):
+        return super().__contains__(id(thing))
+
+    def __getitem__(self, thing):
+        return super().__getitem__(id(thing))
+
+    def __setitem__(self, thing, row):
+        super().__setitem__(id(thing), row)
+
+
+class Table:
+    """The rows of a recipe. A thing has one row, which stands before the first that names it.
+
+    Where the table looks, things of one normal form have one row, and a thing that stands in what
+    an earlier node concludes is read from there.
+    """
+
+    def __init__(self, recipe, earlier=(), reads=False, looks=False):
+        self.looks, self.rows_of, self.seen = looks, {}, {}
         self.recipe, self.rows, self.count = recipe, [], 0
         self.earlier, self.reads = earlier, reads
-        self.things, self.nodes, self.given = {}, {}, {}
+        self.things, self.nodes, self.given = Things(), {}, {}
+        self.alike, self.ones = {}, {}
         self.used = {"Row": set(), "families": {}}
         for node in recipe.nodes:
             self.nodes[node.name] = self.node(node)
+            if looks and node.word != "recipe":
+                for at, form in enumerate(recipe.said[node.name][1]):
+                    self.seen.setdefault(form, (self.nodes[node.name], at))
 
     def row(self, text, comment=None, makes=1):
         """The number of what a row makes first."""
@@ -80,9 +124,32 @@ class Table:
         return number
 
     def thing(self, thing):
+        thing = self.one(thing)
         if thing not in self.things:
-            self.things[thing] = self.row(self.built(thing))
+            self.things[thing] = self.looked(thing) if self.looks else self.row(self.built(thing))
         return self.things[thing]
+
+    def looked(self, thing):
+        """The row of what has the normal form of a thing."""
+        form = self.recipe.normals.of(thing)
+        if form not in self.rows_of:
+            if form in self.seen and thing[0] not in ("part", "var", "id", "up", "shift"):
+                node, at = self.seen[form]
+                self.rows_of[form] = self.row(f"Field({node}, {at})")
+            else:
+                self.rows_of[form] = self.row(self.built(thing))
+        return self.rows_of[form]
+
+    def one(self, thing):
+        """A thing as one that is the same for all that are built alike."""
+        if not isinstance(thing, (tuple, list)):
+            return thing
+        found = self.alike.get(id(thing))
+        if found is None:
+            key = tuple(self.one(part) for part in thing)
+            short = tuple(("", id(part)) if isinstance(part, tuple) else part for part in key)
+            found = self.alike[id(thing)] = (self.ones.setdefault(short, key), thing)
+        return found[0]
 
     def built(self, thing):
         """The row of a thing, after those of its parts."""
@@ -127,7 +194,7 @@ class Table:
             return self.nodes[node.premises[0]] + at
         if node.word == "premise":
             return self.row(f"Premise({self.place(node)})", node.text)
-        parts = padded([self.thing(tupled(part)) for part in node.parts], MOST_PARTS)
+        parts = padded([self.thing(part) for part in node.parts], MOST_PARTS)
         premises = [self.nodes[name] for name in node.premises]
         if node.word == "recipe":
             self.given[node.name] = node.rule
@@ -195,19 +262,29 @@ def broken(line):
     return [head, f"        [{premises}"]
 
 
-def tupled(thing):
-    """A thing as a key: lists of kids as tuples."""
-    return tuple(tupled(part) if isinstance(part, (tuple, list)) else part for part in thing)
-
-
 def main():
     recipes = {}
-    for crate, name in ((crate, name) for crate, names in CRATES.items() for name in names):
-        text = (ROOT / "tools" / "recipes" / f"{name}.txt").read_text()
-        recipes[name] = Recipe(text, {other: recipes[other] for other in EARLIER.get(name, [])})
-        to = ROOT / "crates" / crate / "src" / f"{name}.rt"
-        table = Table(recipes[name], EARLIER.get(name, []), crate in READ)
-        to.write_text(table.written())
+    for crate, names in CRATES.items():
+        folder = ROOT / "crates" / crate
+        for name in names:
+            earlier = EARLIER.get(name, [])
+            text = (ROOT / "tools" / "recipes" / f"{name}.txt").read_text()
+            kind = NamedRecipe if "\nsteps\n" in text else Recipe
+            recipes[name] = kind(text, {other: recipes[other] for other in earlier})
+            table = Table(recipes[name], earlier, crate in READ, crate in LOOK)
+            (folder / "src" / f"{name}.rt").write_text(table.written())
+        write_rest(folder, names)
+
+
+def write_rest(folder, names):
+    """What a crate says of its recipes besides their tables, where it does not stand yet."""
+    text = with_modules((folder / "src" / "lib.rt").read_text(), names)
+    (folder / "src" / "lib.rt").write_text(text)
+    for name, answer in answers(folder.name, text, names).items():
+        to = folder / "proofs" / name / "Answers.antt"
+        if not to.exists():
+            to.parent.mkdir(parents=True, exist_ok=True)
+            to.write_text(answer)
 
 
 if __name__ == "__main__":

@@ -31,22 +31,48 @@ BEGIN, END = "Written by tools/write_rules.py from here on.", "Written by hand f
 TABLE_WORDS = {"U": "universe", "Glue": "glue_type"}
 
 
+# How the table writes contexts, substitutions and trees, with the places of what they are made of.
+MIXFIX = {
+    "with_var": "{} ∙ {}", "with_name": "{} ∙I", "with_face": "{} ∣ {}", "at": "{} ⟨ {} ⟩",
+    "apply": "{} ⟦ {} ⟧",
+}
+
+# How it writes judgements, likewise.
+JUDGEMENTS = {
+    "Ty": "{} ⊢ {}", "TyEq": "{} ⊢ {} ≐ {}", "Tm": "{} ⊢ {} ∶ {}", "TmEq": "{} ⊢ {} ≐ {} ∶ {}",
+    "Sb": "{1} from {0} to {2}",
+}
+
+
 def said(thing, nested=False):
     """A thing as the table says it, in brackets where it is nested and of several words."""
     word, *rest = thing
     if word == "part":
         return rest[0]
-    if word in ("make", "derived", "called"):
-        words = [TABLE_WORDS.get(rest[0], rest[0])] + [said(kid, True) for kid in rest[1]]
+    if word in MIXFIX:
+        text = mixed(word, rest)
+    elif word in ("make", "derived", "called"):
+        text = " ".join([TABLE_WORDS.get(rest[0], rest[0])] + [said(kid, True) for kid in rest[1]])
     elif word in ("var", "shift"):
-        words = [{"var": "var", "shift": "shift_by"}[word], str(rest[0])]
+        text = f"{'var' if word == 'var' else 'shift_by'} {rest[0]}"
     else:
-        words = [word] + [said(part, True) for part in rest]
-    text = " ".join(words)
-    return f"({text})" if nested and len(words) > 1 else text
+        text = " ".join([word] + [said(part, True) for part in rest])
+    return f"({text})" if nested and " " in text else text
+
+
+def mixed(word, parts):
+    """A thing that is written in mixfix. A context stands to the left without brackets, and what
+    stands between two signs has none either."""
+    first, *others = parts
+    is_context = word.startswith("with")
+    return MIXFIX[word].format(said(first, not is_context),
+                               *(said(other, is_context) for other in others))
 
 
 def says(form, places):
+    """A judgement or a side condition."""
+    if form in JUDGEMENTS:
+        return JUDGEMENTS[form].format(*(said(place) for place in places))
     return " ".join([form] + [said(place, True) for place in places])
 
 
@@ -102,23 +128,8 @@ def premises_lines(rule):
     name = premises(rule)[0]
     head, wants = f"  {name} {' '.join(rule.parts)} =", [says(*want) for want in rule.wants]
     line = f"{head} {listed(wants)}"
-    return [f"  -- the premises of {rule.name}",
-            f"  abbrev pub {name} : {takes} → List (JudgementOf L)",
+    return [f"  abbrev pub {name} : {takes} → List (JudgementOf L)",
             *([line] if len(line) <= WIDTH else [head, *list_lines(wants, "      ")]), ""]
-
-
-def comment(rule):
-    first, *others = rule.text.splitlines()
-    lines = [f"  -- {first.strip()}"] + [f"  --   {line.strip()}" for line in others]
-    return [part for line in lines for part in broken(line)]
-
-
-def broken(line):
-    """The line of a rule, with its conclusion on a line of its own where it is too long."""
-    if len(line) <= WIDTH:
-        return [line]
-    claims, given = line.rsplit(" | ", 1)
-    return [claims, f"  --   | {given}"]
 
 
 def applied(name):
@@ -131,12 +142,11 @@ def former_lines(rule):
     """What the rules share that are as this one: F stands for the operator of each."""
     name, operator = applied(rule.name)
     shared = copy.copy(rule)
-    shared.text = re.sub(rf"\b{operator}\b", "F", rule.text)
     shared.wants, shared.gives = (put_operator(claims, operator)
                                   for claims in (rule.wants, rule.gives))
     kinds = f"kinds_of ({rule.family.variant} {rule.variant})"
-    return comment(shared) + [f"  abbrev pub {name} : (tree → tree → tree) → Over ({kinds})",
-                              *table_line(f"{name} F", shared), ""]
+    return [f"  abbrev pub {name} : (tree → tree → tree) → Over ({kinds})",
+            *table_line(f"{name} F", shared), ""]
 
 
 def put_operator(thing, operator):
@@ -159,7 +169,6 @@ def table(found):
         lines += [f"  abbrev pub {family.word}_rule : (name : {family.enum}) → Over ({kinds})"]
         for rule in family.rules:
             name = f"{family.word}_rule {rule.variant}"
-            lines += comment(rule)
             if rule.model or rule in models:
                 lines.append(f"  {name} = {' '.join(applied(rule.name))}")
             else:

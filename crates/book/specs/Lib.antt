@@ -3,4 +3,5 @@ pub mod Coded
 pub mod Right
 pub mod Contents
 pub mod Shown
+pub mod Fits
 pub mod Tests

@@ -1,10 +1,12 @@
 -- When a rule may be used, and when the nodes of a book are right.
-use Rattle.std.specs.Prelude.{◌≡◌, ◌<◌, ℕ, List, Option, Some, slice_get}
+use Rattle.std.specs.Prelude.{◌≡◌, ◌<◌, ℕ, List, Option, Some, slice_get, length}
 use Rattle.std.specs.List.{All}
 use Rattle.theory.specs.declared.rule.RuleName.{RuleName}
 use Rattle.trees.specs.Judgements.{Judgement}
 use Rattle.trees.specs.Things.{Thing, Meanings, meanings}
 use Rattle.rules.specs.Instances.{IsInstance}
+use Rattle.side_conditions.specs.declared.deciding.SideConditions.{SideConditions}
+use Rattle.side_conditions.specs.Kept.{KeepsBelow}
 use Rattle.book.specs.Nodes.{Node, node_coded, judgement_of, concluded}
 
 -- The rule at these parts, which are rows, and premises, which are nodes, gives J: what they mean
@@ -37,3 +39,8 @@ pub record IsRight (means : Meanings) (nodes : List (List ℕ)) (k : ℕ)
 
 pub record AreRight (means : Meanings) (nodes : List (List ℕ)) : Type 0 where
   pub each : (k : ℕ) (words : List ℕ) → slice_get nodes k ≡ Some words → IsRight means nodes k words
+
+-- the nodes are right, and what is kept of contexts is so
+pub record IsSound (xs : List Thing) (nodes : List (List ℕ)) (sides : SideConditions) : Type 0 where
+  pub right : AreRight (slice_get xs) nodes
+  pub keeps : KeepsBelow (length xs) (slice_get xs) sides

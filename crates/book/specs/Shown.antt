@@ -1,5 +1,5 @@
 -- What contracts see of a book.
-use Rattle.std.specs.Prelude.{◌≡◌, ◌<◌, ◌≤◌, ℕ, length, Option, Some, None, slice_get}
+use Rattle.std.specs.Prelude.{◌≡◌, ◌<◌, ◌≤◌, ℕ, length, Option, Some, None, IsSome, slice_get}
 use Rattle.std.specs.Prelude.{option_and_then}
 use Rattle.std.specs.List.{All}
 use Rattle.trees.specs.Judgements.{Judgement}
@@ -45,6 +45,11 @@ pub record Extends (old new : Contents) : Type 0 where
   pub conclusions : (k : ℕ) (J : Judgement) → book_concludes old k ≡ Some J
       → book_concludes new k ≡ Some J
   pub marks : (mark : Mark) → IsMark old mark → IsMark new mark
+
+-- old rows and nodes stay what they are, and there is no new node
+pub record AddsRows (old new : Contents) : Type 0 where
+  pub extends : Extends old new
+  pub nodes : (k : ℕ) → IsSome (book_concludes new k) → IsSome (book_concludes old k)
 
 -- the rows and nodes of the mark are what they were, and there are no others
 pub record Released (old new : Contents) (mark : Mark) : Type 0 where

@@ -7,6 +7,7 @@ use interned::InternedRows;
 use region::{Region, RowId};
 use rows::{Row, TermId};
 use rules::concluded;
+use side_conditions::SideConditions;
 use std::alloc::{AllocError, Global};
 use std::marker::Model;
 use theory::{Claim, PartKind, RuleName};
@@ -41,6 +42,10 @@ pub struct Book {
     pub(crate) alloc: Global,
     pub(crate) rows: InternedRows,
     pub(crate) nodes: Region,
+    /// Compares what nodes conclude with what a rule wants.
+    pub(crate) comparison: Comparison,
+    /// What was read of contexts for side conditions.
+    pub(crate) sides: SideConditions,
 }
 
 impl Model for Book {
@@ -49,8 +54,8 @@ impl Model for Book {
 
     ghost Value = { Contents };
 
-    ghost use Rattle.interned.specs.Shown.{rows_mean, rows_spare};
-    ghost use Rattle.book.specs.Right.{AreRight};
+    ghost use Rattle.interned.specs.Shown.{things, rows_spare};
+    ghost use Rattle.book.specs.Right.{IsSound};
 
     ghost view = { λ b. record {
       rows = b.rows.region.rows;
@@ -58,7 +63,7 @@ impl Model for Book {
       spare = min (rows_spare b.rows) (min b.nodes.spare_rows (b.nodes.spare_words / 32));
     } };
 
-    ghost invariant = { λ b. AreRight (rows_mean b.rows) b.nodes.rows };
+    ghost invariant = { λ b. IsSound (things b.rows) b.nodes.rows b.sides };
 }
 
 impl Book {
@@ -90,6 +95,8 @@ impl Book {
             alloc,
             rows: InternedRows::new(alloc)?,
             nodes: Region::new(alloc)?,
+            comparison: Comparison::new(alloc),
+            sides: SideConditions::new(alloc),
         })
     }
 
@@ -218,6 +225,7 @@ impl Book {
         ensures released { Released self.old self.new mark }
         ensures kept { self.old.spare ≤ self.new.spare }
     {
+        self.sides = SideConditions::new(self.alloc);
         self.rows.release(region::Mark(mark.rows));
         self.nodes.release(region::Mark(mark.nodes));
     }

@@ -16,6 +16,8 @@ mod few;
 mod kernel;
 mod node_words;
 mod questions;
+mod trying;
 
 pub use few::{Few, RuleUse};
 pub use kernel::{Book, Mark, NodeId, NodeRow};
+pub use trying::Fit;

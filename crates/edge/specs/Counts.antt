@@ -33,6 +33,7 @@ abbrev pub counted_fetch : Fetched → FileCounts → FileCounts
 counted_fetch fetched.Found counts = counts
 counted_fetch fetched.Missing counts = record counts { misses = one_more counts.misses }
 counted_fetch fetched.Failed counts = record counts { fetch_faults = one_more counts.fetch_faults }
+counted_fetch fetched.Longer counts = counts
 counted_fetch fetched.Memory counts = counts
 
 -- the counts after a store with this answer

@@ -13,6 +13,8 @@ pub enum Fetched {
     Missing,
     /// The path can't be read for another reason.
     Failed,
+    /// The path holds as many bytes as the limit, or more, and none was appended.
+    Longer,
     /// It was out of memory for the bytes.
     Memory,
 }
@@ -22,7 +24,7 @@ pub enum Fetched {
 pub enum Stored {
     /// The path holds the bytes.
     Done,
-    /// The bytes could not be written, and what the path holds now is open.
+    /// The bytes could not be written, and nothing changed.
     Failed,
     /// It was out of memory, and nothing changed.
     Memory,
@@ -36,13 +38,15 @@ pub trait Files {
     /// How many fetches were answered by `Missing`, and how many fetches and stores failed.
     ghost counts: { Self → FileCounts };
 
-    /// Appends the bytes of the path to `into`, which any answer but `Found` leaves as it was.
-    fn fetch(&mut self, path: &str, into: &mut Vec<u8>) -> Fetched
-        ensures bytes { FetchGives (held self.old) path.now into.old.items into.new.items result }
+    /// Appends the bytes of the path to `into`, if they are fewer than `limit`. Any answer but
+    /// `Found` leaves `into` as it was. No more bytes are read than `limit`.
+    fn fetch(&mut self, path: &str, limit: u64, into: &mut Vec<u8>) -> Fetched
+        ensures bytes { FetchGives (held self.old) path.now limit
+            into.old.items into.new.items result }
         ensures held { held self.new ≡ held self.old }
         ensures counted { counts self.new ≡ counted_fetch result (counts self.old) };
 
-    /// Puts the bytes at the path, in place of what it held.
+    /// Puts the bytes at the path, in place of what it held: all of them, or none.
     fn store(&mut self, path: &str, bytes: &[u8]) -> Stored
         ensures held { StoreDoes (held self.old) (held self.new) path.now bytes.now result }
         ensures counted { counts self.new ≡ counted_store result (counts self.old) };

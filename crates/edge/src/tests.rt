@@ -1,7 +1,7 @@
 //! Each public call once, with its answer, and what the system may answer.
 
 use super::*;
-use crate::disk::{append_all, fetched_from};
+use crate::disk::{append_below, fetched_from, stored_from};
 use crate::faults::{Fault, fault_of};
 use std::alloc::{AllocError, Global};
 use std::io::{ErrorKind, Read, Write};
@@ -15,11 +15,12 @@ fn memory_files_fail_where_listed(rt: HostRuntime) -> Result<(), Fail> {
     let mut files = MemFiles::new(alloc, &[1, 3])?;
     files.put("a.drv", b"one")?;
     let mut bytes = Vec::from_slice(alloc, b"> ")?;
-    assert_eq!(rt; files.fetch("a.drv", &mut bytes), Fetched::Found);
-    assert_eq!(rt; files.fetch("a.drv", &mut bytes), Fetched::Failed);
+    assert_eq!(rt; files.fetch("a.drv", 4, &mut bytes), Fetched::Found);
+    assert_eq!(rt; files.fetch("a.drv", 4, &mut bytes), Fetched::Failed);
     assert_eq!(rt; files.store("b.drv", b"two"), Stored::Done);
     assert_eq!(rt; files.store("a.drv", b"two"), Stored::Failed);
-    assert_eq!(rt; files.fetch("c.drv", &mut bytes), Fetched::Missing);
+    assert_eq!(rt; files.fetch("c.drv", 4, &mut bytes), Fetched::Missing);
+    assert_eq!(rt; files.fetch("a.drv", 3, &mut bytes), Fetched::Longer);
     assert_eq!(rt; bytes.as_slice(), b"> one".as_slice());
     for (path, held) in [("a.drv", "one"), ("b.drv", "two"), ("c.drv", "none")] {
         let bytes = files.bytes_at(path).unwrap_or(b"none");
@@ -81,7 +82,11 @@ fn assert_stores<F: Files>(
 ) {
     let mut found = Vec::new(alloc);
     assert_eq!(rt; files.store(path, bytes), stored, "at {path}");
-    assert_eq!(rt; files.fetch(path, &mut found), fetched, "at {path}");
+    assert_eq!(rt;
+        files.fetch(path, u64::MAX, &mut found),
+        fetched,
+        "at {path}"
+    );
     if stored == Stored::Done {
         assert!(rt; found.as_slice() == bytes, "at {path}");
     }
@@ -102,28 +107,93 @@ fn disk_files_tell_missing_from_failed(rt: HostRuntime) -> Result<(), Fail> {
     assert_stores(&rt, alloc, &mut files, there.as_str(), b"rules 1", done);
     assert_stores(&rt, alloc, &mut files, folder.as_str(), b"rules 1", failed);
     assert_stores(&rt, alloc, &mut files, inside.as_str(), b"rules 1", failed);
-    assert_eq!(rt; files.store("/dev/full", b"rules 1"), Stored::Failed);
-    fs::remove_dir_all(&rt, folder.as_str())?;
+    assert_stores(&rt, alloc, &mut files, "/dev/full", b"rules 1", failed);
     let mut bytes = Vec::from_slice(alloc, b"> ")?;
-    assert_eq!(rt; files.fetch(there.as_str(), &mut bytes), Fetched::Missing);
-    assert_eq!(rt; bytes.as_slice(), b"> ".as_slice());
+    for (limit, fetched) in [(7, Fetched::Longer), (8, Fetched::Found)] {
+        assert_eq!(rt; files.fetch(there.as_str(), limit, &mut bytes), fetched);
+    }
+    assert_eq!(rt; bytes.as_slice(), b"> rules 1".as_slice());
+    fs::remove_dir_all(&rt, folder.as_str())?;
+    assert_eq!(rt;
+        files.fetch(there.as_str(), 8, &mut bytes),
+        Fetched::Missing
+    );
+    assert_eq!(rt; bytes.as_slice(), b"> rules 1".as_slice());
+    Ok(())
+}
+
+#[test]
+fn disk_files_store_beside_the_path(rt: HostRuntime) -> Result<(), Fail> {
+    let alloc = rt.alloc();
+    let name = format!(in alloc; "ctt-beside-{}", process::id(rt.process()))?;
+    let folder = env::temp_dir(&rt)?.join(alloc, name.as_str())?;
+    fs::create_dir(&rt, folder.as_str())?;
+    let there = folder.join(alloc, "there")?;
+    let link = folder.join(alloc, "link")?;
+    fs::write(&rt, there.as_str(), "old")?;
+    fs::hard_link(&rt, there.as_str(), link.as_str())?;
+    let taken = folder.join(alloc, ".ctt-0")?;
+    fs::write(&rt, taken.as_str(), "taken")?;
+    let mut files = DiskFiles::new(rt);
+    assert_eq!(rt; files.store(link.as_str(), b"new"), Stored::Done);
+    for (path, held) in [(&there, "old"), (&link, "new"), (&taken, "taken")] {
+        assert_eq!(rt;
+            fs::read(&rt, path.as_str())?.as_slice(),
+            held.as_bytes(),
+            "at {held}"
+        );
+    }
+    assert!(rt; !fs::exists(&rt, folder.join(alloc, ".ctt-1")?.as_str())?);
+    fs::remove_dir_all(&rt, folder.as_str())?;
     Ok(())
 }
 
 #[test]
 fn errors_have_their_meaning(rt: HostRuntime) {
-    for (kind, fault, fetched) in [
-        (ErrorKind::NotFound, Fault::Missing, Fetched::Missing),
-        (ErrorKind::OutOfMemory, Fault::Memory, Fetched::Memory),
-        (ErrorKind::Interrupted, Fault::Interrupted, Fetched::Failed),
-        (ErrorKind::PermissionDenied, Fault::Other, Fetched::Failed),
-        (ErrorKind::StorageFull, Fault::Other, Fetched::Failed),
-        (ErrorKind::NotADirectory, Fault::Other, Fetched::Failed),
+    for (kind, fault, fetched, stored) in [
+        (
+            ErrorKind::NotFound,
+            Fault::Missing,
+            Fetched::Missing,
+            Stored::Failed,
+        ),
+        (
+            ErrorKind::OutOfMemory,
+            Fault::Memory,
+            Fetched::Memory,
+            Stored::Memory,
+        ),
+        (
+            ErrorKind::Interrupted,
+            Fault::Interrupted,
+            Fetched::Failed,
+            Stored::Failed,
+        ),
+        (
+            ErrorKind::PermissionDenied,
+            Fault::Other,
+            Fetched::Failed,
+            Stored::Failed,
+        ),
+        (
+            ErrorKind::StorageFull,
+            Fault::Other,
+            Fetched::Failed,
+            Stored::Failed,
+        ),
+        (
+            ErrorKind::NotADirectory,
+            Fault::Other,
+            Fetched::Failed,
+            Stored::Failed,
+        ),
     ] {
         assert_eq!(rt; fault_of(&io::Error::from(kind)), fault);
         assert_eq!(rt; fetched_from(&Err(io::Error::from(kind))), fetched);
+        assert_eq!(rt; stored_from(&Err(io::Error::from(kind))), stored);
     }
-    assert_eq!(rt; fetched_from(&Ok(())), Fetched::Found);
+    assert_eq!(rt; fetched_from(&Ok(true)), Fetched::Found);
+    assert_eq!(rt; fetched_from(&Ok(false)), Fetched::Longer);
 }
 
 /// A stream with these errors, the last first, that then gives nothing and takes so many bytes of
@@ -224,12 +294,13 @@ fn output_is_written_until_it_answers(rt: HostRuntime) -> Result<(), Fail> {
 #[test]
 fn a_read_that_fails_appends_nothing(rt: HostRuntime) -> Result<(), Fail> {
     let mut bytes = Vec::from_slice(rt.alloc(), b"> ")?;
-    let mut reader = b"hi"
-        .as_slice()
-        .chain(Faulty::new(rt.alloc(), &[ErrorKind::TimedOut], 0)?);
-    assert!(rt; append_all(&mut reader, &mut bytes).is_err());
+    let errors = [ErrorKind::TimedOut];
+    let reader = b"hi".as_slice().chain(Faulty::new(rt.alloc(), &errors, 0)?);
+    assert!(rt; append_below(reader, 9, &mut bytes).is_err());
     assert_eq!(rt; bytes.as_slice(), b"> ".as_slice());
-    assert!(rt; append_all(&mut b"hi".as_slice(), &mut bytes).is_ok());
+    assert!(rt; !append_below(b"hi".as_slice(), 2, &mut bytes)?);
+    assert_eq!(rt; bytes.as_slice(), b"> ".as_slice());
+    assert!(rt; append_below(b"hi".as_slice(), 3, &mut bytes)?);
     assert_eq!(rt; bytes.as_slice(), b"> hi".as_slice());
     Ok(())
 }

@@ -1,6 +1,7 @@
 -- A call runs a recipe that is right, and gives what it states.
-use Rattle.std.proofs.Common.{◌≡◌, ℕ, zero, suc, ◌<◌, List, [], ◌∷◌, length, take, drop, sym, ◌∙◌, ap, ap₂, subst, arith, Some}
-use Rattle.std.specs.Prelude.{slice_get, slice_index}
+use Rattle.std.proofs.Common.{◌≡◌, ℕ, zero, suc, ◌<◌, List, [], ◌∷◌, length, take, drop, refl, sym, ◌∙◌, ap, ap₂, subst, arith, leb-true, Some}
+use Rattle.std.specs.Prelude.{Bool, true, ◌&&◌, nat_le, slice_get, slice_index}
+use Rattle.std.proofs.lemmas.Bool.{and_parts}
 use Rattle.trees.specs.Judgements.{Judgement}
 use Rattle.trees.specs.Things.{Thing, meanings}
 use Rattle.trees.proofs.Meanings.{meanings-length}
@@ -10,8 +11,8 @@ use Rattle.recipes.specs.declared.row.Row.{Row}
 use Rattle.recipes.specs.Made.{node_at}
 use Rattle.recipes.specs.Statements.{Statement}
 use Rattle.recipes.specs.Derivations.{RunsTo, Derives, MayStandAt, premises_at, conclusions_at}
-use Rattle.recipe_runner.specs.Running.{MayDerive, MayRun}
-use Rattle.kan_calls.specs.Calls.{MayCall}
+use Rattle.recipe_runner.specs.Running.{MayDerive, MayRun, most_added_by, most_made_by}
+use Rattle.kan_calls.specs.Calls.{MayCall, IsRecipe}
 
 -- what a derivation by an earlier recipe asks for, of its statement
 record Stands (s : Statement) (b : Contents) (premises : List ℕ) (things : List Thing) (gives : List Judgement) : Type 0 where
@@ -49,6 +50,36 @@ may-derive-at ss ts s b k m parts premises gives at there h = record {
   may_stand = h.may_stand;
   given = h.given;
 }
+
+-- a table as a recipe, by its counts
+
+abbrev pub fits : (ℕ → ℕ) → Statement → List Row → List ℕ → ℕ → Bool
+fits most s rows gives added =
+    (nat_le (most_made_by rows) 512 && nat_le (length gives) 16) && (nat_le (length s.wants) 16 && nat_le (most_added_by most rows) added)
+
+pub is-recipe : (earlier : List Statement) (most : ℕ → ℕ) (s : Statement) (rows : List Row) (gives : List ℕ) (added : ℕ) → Derives earlier s rows gives → fits most s rows gives added ≡ true → IsRecipe earlier most s rows gives added
+is-recipe earlier most s rows gives added d e =
+    let halves = and_parts _ _ e in
+    let table = and_parts _ _ halves.0 in
+    let rest = and_parts _ _ halves.1 in
+    record {
+      derives = d;
+      made = leb-true (most_made_by rows) 512 table.0;
+      gives_few = leb-true (length gives) 16 table.1;
+      wants_few = leb-true (length s.wants) 16 rest.0;
+      adds = leb-true (most_added_by most rows) added rest.1;
+    }
+
+pub recipe-at : (earlier : List Statement) (most : ℕ → ℕ) (ss : List Statement) (mosts : List ℕ) (s t : Statement) (rows : List Row) (gives : List ℕ) (k n : ℕ) → k ≡ n → slice_get ss n ≡ Some s → IsRecipe earlier most s rows gives (slice_index mosts n) → slice_get ss k ≡ Some t → IsRecipe earlier most t rows gives (slice_index mosts k)
+recipe-at earlier most ss mosts s t rows gives k n e at h there =
+    let same = at-number ss s t k (ap (slice_get ss) e ∙ at) there in
+    subst (λ u. IsRecipe earlier most u rows gives (slice_index mosts k)) same
+    (subst (λ m. IsRecipe earlier most s rows gives (slice_index mosts m)) (sym e) h)
+
+-- the recipe of a number, whichever it is
+pub may-run-recipe : (ss earlier : List Statement) (most : ℕ → ℕ) (b : Contents) (rows : List Row) (outs parts premises : List ℕ) (k added : ℕ) (gives : List Judgement) → ((s : Statement) → slice_get ss k ≡ Some s → IsRecipe earlier most s rows outs added) → MayDerive ss b k parts premises gives → MayRun earlier b rows outs parts premises gives
+may-run-recipe ss earlier most b rows outs parts premises k added gives recipe h =
+    may-run-same ss earlier h.statement b rows outs parts premises k gives (recipe h.statement h.is).derives h refl
 
 -- where there is one earlier recipe
 

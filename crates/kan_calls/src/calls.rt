@@ -39,7 +39,7 @@ pub struct Derived {
 }
 
 /// These numbers, and then more.
-fn followed(mut few: Few, more: &[u64]) -> Few
+pub fn followed(mut few: Few, more: &[u64]) -> Few
     requires { length few + length more.now ≤ 16 }
     ensures { result ≡ few ++ more.now }
 {

@@ -1,8 +1,7 @@
 //! The four derived rules, as the rows of other recipes name them.
 
-ghost use Rattle.std.specs.Prelude.{[], ◌∷◌, slice_index};
-ghost use Rattle.kan_fill.specs.Statements.{fill_statement, contr_statement, pres_statement};
-ghost use Rattle.kan_fill.specs.Statements.{ext_statement};
+ghost use Rattle.std.specs.Prelude.{slice_index};
+ghost use Rattle.kan_fill.specs.Statements.{kan_statements};
 ghost use Rattle.kan_calls.specs.Calls.{most_of_each};
 
 use crate::earlier::{Contraction, Filling};
@@ -15,8 +14,7 @@ use std::alloc::AllocError;
 pub struct Kan;
 
 impl Earlier for Kan {
-    ghost states = { λ s.
-        fill_statement ∷ contr_statement ∷ pres_statement ∷ ext_statement ∷ [] };
+    ghost states = { λ s. kan_statements };
 
     ghost most = { λ s k. slice_index most_of_each k };
 

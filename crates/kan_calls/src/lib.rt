@@ -1,5 +1,6 @@
 //! The derived rules of the Kan operations as calls over a book: filling, contraction,
-//! preservation, and extension of an element of a fiber.
+//! preservation, and extension of an element of a fiber; and how the recipe of a rule of
+//! composition unfolds one.
 //!
 //! ```text
 //! let step = Derive { parts, premises };      // G A p b a r, and the premises of `comp`
@@ -11,7 +12,9 @@
 mod calls;
 mod earlier;
 mod kan;
+mod unfolding;
 
 pub use calls::{Derive, Derived, MOST_ADDED, contr, ext, fill, pres};
 pub use earlier::{Contraction, Filling};
 pub use kan::Kan;
+pub use unfolding::{Recipe, Unfolded, laws_of_unfoldings, unfold_by};

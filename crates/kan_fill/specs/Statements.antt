@@ -121,3 +121,7 @@ extension L = λ G T A w p z a.
 
 abbrev pub ext_statement : Statement
 ext_statement = stated ext_kinds (extension patterns)
+
+-- the four, as the earlier recipes of others, by the numbers 0 to 3
+abbrev pub kan_statements : List Statement
+kan_statements = fill_statement ∷ contr_statement ∷ pres_statement ∷ ext_statement ∷ []

@@ -1,3 +1,4 @@
+pub mod TooLong
 pub mod FrameLaws
 pub mod ReadLaws
 pub mod LoadLaws

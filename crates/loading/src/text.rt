@@ -12,6 +12,9 @@ use module_texts::ModuleText;
 use std::alloc::{AllocError, Global};
 use syntax::Module;
 
+/// More bytes than a module has.
+const LIMIT: u64 = 16_777_217;
+
 /// Why a module is not loaded. Paths are those of the files of modules.
 #[derive(Drop)]
 pub enum LoadFault {
@@ -65,7 +68,7 @@ pub fn read_text<F: Files>(
         return Err(LoadFault::Memory);
     };
     let mut bytes = Vec::new(alloc);
-    match files.fetch(path.as_str(), &mut bytes) {
+    match files.fetch(path.as_str(), LIMIT, &mut bytes) {
         Fetched::Found => match module_in(alloc, &bytes, path) {
             Ok(module) => Ok(ModuleText {
                 name,
@@ -74,6 +77,7 @@ pub fn read_text<F: Files>(
             }),
             Err(fault) => Err(fault),
         },
+        Fetched::Longer => Err(LoadFault::NoTokens(LexFault::TooLong, path)),
         Fetched::Missing => Err(LoadFault::Missing(path)),
         Fetched::Failed => Err(LoadFault::Unreadable),
         Fetched::Memory => Err(LoadFault::Memory),

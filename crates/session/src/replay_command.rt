@@ -50,10 +50,10 @@ pub(crate) fn replay<F: Files>(
         },
     };
     let mut bytes = Vec::new(alloc);
-    match files.fetch(path, &mut bytes) {
+    match files.fetch(path, u64::MAX, &mut bytes) {
         Fetched::Found => judged(alloc, &bytes, wanted.as_ref()),
         Fetched::Missing => Ok(Outcome::MissingFile(String::from_str(alloc, path)?)),
         Fetched::Failed => Ok(Outcome::ReadFault),
-        Fetched::Memory => Err(AllocError),
+        Fetched::Longer | Fetched::Memory => Err(AllocError),
     }
 }

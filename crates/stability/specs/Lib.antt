@@ -1,3 +1,4 @@
 pub mod Depths
 pub mod Moved
 pub mod Stable
+pub mod Named

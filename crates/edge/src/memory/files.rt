@@ -90,8 +90,8 @@ impl Files for MemFiles {
 
     ghost counts = { λ s. s.counts };
 
-    fn fetch(&mut self, path: &str, into: &mut Vec<u8>) -> Fetched
-        ensures bytes { FetchGives (Some self.old.held) path.now
+    fn fetch(&mut self, path: &str, limit: u64, into: &mut Vec<u8>) -> Fetched
+        ensures bytes { FetchGives (Some self.old.held) path.now limit
             into.old.items into.new.items result }
         ensures listed { (result ≡ Fetched.Failed) ↔ Contains self.old.failing self.old.calls }
         ensures memory { result ≡ Fetched.Memory → IsSome (map.get self.old.held path.now) }
@@ -106,6 +106,7 @@ impl Files for MemFiles {
                 self.misses = self.misses.saturating_add(1);
                 Fetched::Missing
             }
+            Some(bytes) if bytes.len() as u64 >= limit => Fetched::Longer,
             Some(bytes) => match into.extend_from_slice(bytes) {
                 Ok(()) => Fetched::Found,
                 Err(_) => Fetched::Memory,

@@ -1,17 +1,17 @@
 use Rattle.rows.proofs.TableLaws.{grows-same}
-use Rattle.interned.specs.Shown.{rows_mean}
-use Rattle.book.proofs.NodeLaws.{nodes-kept}
+use Rattle.interned.specs.Shown.{things}
+use Rattle.book.proofs.FitLaws.{sound-kept}
 use Rattle.book.proofs.BookLaws.{extends-along}
 use Rattle.book.proofs.book_rows.BookMaker.ctx_face.Goals as goal
 
 pub invariant_of-self : goal.invariant_of-self
-invariant_of-self c = nodes-kept (rows_mean c.self.inside.rows) (rows_mean c.ctx_face.new.self) c.self.inside.nodes.rows c.ctx_face.ensures.kept c.self.invariant
+invariant_of-self c = sound-kept (things c.self.inside.rows) (things c.ctx_face.new.self) c.self.inside.nodes.rows c.self.inside.sides c.ctx_face.ensures.kept c.self.invariant
 
 pub returns-in_err-ctx_face-clause-extends : goal.returns-in_err-ctx_face-clause-extends
 returns-in_err-ctx_face-clause-extends c = extends-along _ _ _ c.self.view_is c.ctx_face.ensures.kept (grows-same c.self.inside.nodes.rows)
 
 pub invariant_of-self-2 : goal.invariant_of-self-2
-invariant_of-self-2 c = nodes-kept (rows_mean c.self.inside.rows) (rows_mean c.ctx_face.new.self) c.self.inside.nodes.rows c.ctx_face.ensures.kept c.self.invariant
+invariant_of-self-2 c = sound-kept (things c.self.inside.rows) (things c.ctx_face.new.self) c.self.inside.nodes.rows c.self.inside.sides c.ctx_face.ensures.kept c.self.invariant
 
 pub returns-clause-extends : goal.returns-clause-extends
 returns-clause-extends c = extends-along _ _ _ c.self.view_is c.ctx_face.ensures.kept (grows-same c.self.inside.nodes.rows)

@@ -1,16 +1,17 @@
 use Rattle.std.proofs.Common.{◌≤◌, ◌+◌, ◌∙◌, refl, sym, ap, subst, length, arith}
-use Rattle.interned.specs.Shown.{rows_mean, rows_spare}
+use Rattle.interned.specs.Shown.{things, rows_mean, rows_spare}
 use Rattle.rules.specs.Schemas.{most_rows}
 use Rattle.book.specs.Contents.{Contents}
-use Rattle.book.specs.Right.{AreRight}
+use Rattle.book.specs.Right.{IsSound}
 use Rattle.book.specs.Shown.{book_means, book_concludes}
-use Rattle.book.proofs.NodeLaws.{few_cells, use-counts, nodes-kept, nodes-added}
+use Rattle.book.proofs.NodeLaws.{few_cells, use-counts, nodes-added}
 use Rattle.book.proofs.BookLaws.{right-concluded, extends-along, interned-grows, grows-equal}
+use Rattle.book.proofs.FitLaws.{sound-kept}
 use Rattle.book.proofs.SpareLaws.{spare_of, some_rows, node-covered, spent_once}
 use Rattle.book.proofs.kernel.Book.conclude.Goals as goal
 
 pub invariant_of-self : goal.invariant_of-self
-invariant_of-self c = nodes-kept (rows_mean c.self.inside.rows) (rows_mean c.concluded.new.maker) c.self.inside.nodes.rows c.concluded.ensures.kept c.self.invariant
+invariant_of-self c = sound-kept (things c.self.inside.rows) (things c.concluded.new.maker) c.self.inside.nodes.rows c.self.inside.sides c.concluded.ensures.kept c.self.invariant
 
 pub returns-in_err-claim-clause-extends : goal.returns-in_err-claim-clause-extends
 returns-in_err-claim-clause-extends c = extends-along _ _ _ c.self.view_is c.concluded.ensures.kept (grows-equal c.self.inside.nodes.rows c.self.inside.nodes.rows refl)
@@ -31,9 +32,10 @@ node_words-words-requires-clause-few c =
 
 pub invariant_of-self-in_err-at : goal.invariant_of-self-in_err-at
 invariant_of-self-in_err-at c =
-    let g = rows_mean c.concluded.new.maker in
-    subst (AreRight g) (sym c.in_err-at.ensures.err)
-    (nodes-kept (rows_mean c.self.inside.rows) g c.self.inside.nodes.rows c.concluded.ensures.kept c.self.invariant)
+    let xs = things c.concluded.new.maker in
+    let sides = c.self.inside.sides in
+    subst (λ nodes. IsSound xs nodes sides) (sym c.in_err-at.ensures.err)
+    (sound-kept (things c.self.inside.rows) xs c.self.inside.nodes.rows sides c.concluded.ensures.kept c.self.invariant)
 
 pub returns-in_err-at-clause-extends : goal.returns-in_err-at-clause-extends
 returns-in_err-at-clause-extends c = extends-along _ _ _ c.self.view_is c.concluded.ensures.kept (grows-equal _ _ c.in_err-at.ensures.err)
@@ -60,8 +62,8 @@ invariant_of-self-2 c =
     let g = rows_mean c.concluded.new.maker in
     let step = c.args.step.now in
     let new = right-concluded _ _ c.self.view_is g c.concluded.ensures.kept step.rule step.parts step.premises c.requires.right.0 c.requires.right.1 c.as_slice-parts.result.now c.as_slice.result.now c.as_slice-parts.ensures.value c.as_slice.ensures.value c.in_ok-claim.claim c.in_ok-claim.ensures.claim c.node_words-words.result c.as_slice-2.result.now c.node_words-words.ensures c.as_slice-2.ensures.value in
-    nodes-added g nodes c.as_slice-2.result.now c.intern.new.self.rows
-    (nodes-kept (rows_mean c.self.inside.rows) g nodes c.concluded.ensures.kept c.self.invariant) new c.in_ok-at.ensures.new
+    let sound = sound-kept (things c.self.inside.rows) (things c.concluded.new.maker) nodes c.self.inside.sides c.concluded.ensures.kept c.self.invariant in
+    record { right = nodes-added g nodes c.as_slice-2.result.now c.intern.new.self.rows sound.right new c.in_ok-at.ensures.new; keeps = sound.keeps }
 
 pub returns-clause-extends : goal.returns-clause-extends
 returns-clause-extends c =

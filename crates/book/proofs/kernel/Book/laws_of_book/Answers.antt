@@ -9,4 +9,4 @@ pub returns-clause-rows : goal.returns-clause-rows
 returns-clause-rows c = subst (λ (b : Contents). AreCoded b.rows) c.self.view_is c.self.inside.rows.coded
 
 pub returns-clause-nodes : goal.returns-clause-nodes
-returns-clause-nodes c = subst (λ (b : Contents). AreRight (book_means b) b.nodes) c.self.view_is c.self.invariant
+returns-clause-nodes c = subst (λ (b : Contents). AreRight (book_means b) b.nodes) c.self.view_is c.self.invariant.right

@@ -11,4 +11,4 @@ pub returns : goal.returns
 returns c =
     let inside = c.self.inside in
     subst (λ (b : Contents). (k : ℕ) (J : Judgement) → book_concludes b k ≡ Some J → Provable J) c.self.view_is
-    (nodes-provable (rows_mean inside.rows) inside.nodes.rows c.self.invariant)
+    (nodes-provable (rows_mean inside.rows) inside.nodes.rows c.self.invariant.right)

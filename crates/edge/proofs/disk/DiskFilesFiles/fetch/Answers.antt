@@ -8,6 +8,6 @@ pub returns-clause-bytes : goal.returns-clause-bytes
 returns-clause-bytes g c =
     let old = c.args.into.now.items in
     let new = c.append_file-answer.new.into.items in
-    let Gives : Fetched → Type 0 = λ fetched. FetchGives None c.args.path.now old new fetched in
+    let Gives : Fetched → Type 0 = λ fetched. FetchGives None c.args.path.now c.args.limit old new fetched in
     subst Gives (sym c.fetched_from-fetched.ensures)
-    (gives c.args.path.now old new c.append_file-answer.result c.append_file-answer.ensures.appends c.append_file-answer.ensures.err)
+    (gives c.args.path.now c.args.limit old new g.R.File.Read.remaining c.append_file-answer.result c.append_file-answer.ensures.ok c.append_file-answer.ensures.err)

@@ -1,0 +1,4 @@
+pub mod OrderLaws
+pub mod ReadLaws
+pub mod KidLaws
+pub mod PartLaws

@@ -1,0 +1,4 @@
+pub mod TextLaws
+pub mod TaskLaws
+pub mod SideLaws
+pub mod WriteLaws
