@@ -22,14 +22,15 @@ import textwrap
 ROOT = pathlib.Path(__file__).resolve().parent.parent
 CRATES = ROOT / "crates"
 PAGE = ROOT / "docs" / "TRUSTED.md"
-LAYERS = [line.split(":")[0] for line in (ROOT / "crates.txt").read_text().splitlines()]
+LISTED = [line.split("#")[0] for line in (ROOT / "crates.txt").read_text().splitlines()]
+LAYERS = [line.split(":")[0] for line in LISTED if ":" in line]
 
-START = [("ctt/src/main.rt", "run_to_end"), ("edge/src/files.rt", "Files"),
-         ("edge/src/streams.rt", "Source"), ("edge/src/streams.rt", "Sink")]
+START = [("ctt/src/main.rt", "run_to_end"), ("host_io/src/files.rt", "Files"),
+         ("host_io/src/streams.rt", "Source"), ("host_io/src/streams.rt", "Sink")]
 
 # Laws on what the contract speaks of, which exclude that an answer means two things.
 LAWS = [("session/src/outcome.rt", "answers_exclude_each_other"),
-        ("determined/src/lib.rt", "texts_determine_directness")]
+        ("text_laws/src/lib.rt", "texts_determine_directness")]
 
 # The parts of the contract, each with the names of definitions that only later parts need.
 OF_CHECK = {"MayCheck", "MayLeave"}

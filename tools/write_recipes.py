@@ -27,7 +27,7 @@ CRATES = {
         "line", "back", "square", "cube", "eqv_uv", "eqv_m", "eqv_n", "eqv_w", "assemble", "eqv",
         "comp_u",
     ],
-    "structural": [
+    "structural_rules": [
         "lift_var", "lift_name", "lift_face", "swap_face", "swap_faces", "merge_faces",
         "restrict_ty0", "restrict_ty1", "restrict_tm0", "restrict_tm1", "cover_ty", "cover_tm",
         "lam_cong", "pair_cong", "plam_cong", "sys_cong", "glue_cong",
@@ -43,7 +43,7 @@ CRATES = {
     ],
     "literal_types": ["with_face", "past_face"],
     "literal_terms": ["equation_instance", "equations_joined"],
-    "openings": [
+    "inversion_rules": [
         "open_binder", "open_pathp", "open_glue_type", "open_lam", "open_pair", "open_plam",
         "open_glue", "open_binder_u", "open_pathp_u", "open_glue_type_u", "up_var", "up_name",
         "up_face", "fits_pi", "fits_sig", "anchor", "anchor_conv", "beta_asks", "beta_answers",
@@ -70,7 +70,7 @@ EARLIER |= {"eqv": EQUIVALENCE_PARTS}
 
 # The crates whose tables read the parts of a recipe from its premises, where these name them, so
 # that a call passes the others alone, which come first.
-READ = {"typing_rules", "literal_types", "literal_terms", "openings"}
+READ = {"typing_rules", "literal_types", "literal_terms", "inversion_rules"}
 
 # The crates whose tables read things from what earlier nodes conclude, which takes fewer rows.
 LOOK = {"kan_types", "kan_glue", "kan_universe"}
@@ -239,7 +239,7 @@ def head(tables, script="write_recipes"):
         for family, variants in table.used["families"].items():
             names.setdefault(family, set()).update(variants)
     found = sorted(names.items(), key=lambda item: item[0].enum)
-    lines = [f"//! Written by tools/{script}.py.", "", "use recipes::Row;"]
+    lines = [f"//! Written by tools/{script}.py.", "", "use recipes::{Row, table};"]
     lines.append(f"use recipes::Row::{{{', '.join(sorted(rows))}}};")
     for family, variants in found:
         lines.append(f"use theory::{family.enum}::{{{', '.join(sorted(variants))}}};")

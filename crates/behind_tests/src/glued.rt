@@ -1,7 +1,7 @@
 //! Written by tools/write_recipes.py.
 
-use recipes::Row;
 use recipes::Row::{Conclude, Instance, Make, Nil, Shift, Var, WithFace, WithName, WithVar};
+use recipes::{Row, table};
 use theory::ContextRule::{CtxFace, CtxName, CtxNil, CtxVar, SubId, SubWk, SubWkName};
 use theory::EqualityRule::{TmEqAbsurd, TmEqRefl, TmEqSym, TmEqTrans, TyEqRefl};
 use theory::GlueRule::{

@@ -8,11 +8,6 @@
 //! ```
 #![tactic(auto)]
 
-/// The rows of a table, each on a line of its own however long.
-macro_rules! table {
-    ($($row:expr,)*) => { &[$($row),*] };
-}
-
 mod answers;
 mod asking;
 mod forms;

@@ -10,7 +10,7 @@ use Rattle.translation.specs.Translated.{Stated}
 use Rattle.translation.specs.Scopes.{Scope}
 use Rattle.book.specs.Contents.{Contents}
 use Rattle.book.specs.Shown.{Extends}
-use Rattle.places.proofs.GrowthLaws.{further}
+use Rattle.typed_contexts.proofs.GrowthLaws.{further}
 use Rattle.direct.specs.Known.{Known, scope_of}
 use Rattle.typing_steps.specs.declared.state.CheckState.{CheckState}
 use Rattle.typing_tasks.specs.declared.tasks.Task.{Task}

@@ -3,7 +3,7 @@ use Rattle.std.proofs.Common.{◌≡◌, ◌<◌, ◌+◌, ℕ, List, [], length
 use Rattle.std.proofs.lemmas.List.{reverse-append, reverse-reverse}
 use Rattle.book.specs.Contents.{Contents}
 use Rattle.book.specs.Shown.{Extends}
-use Rattle.places.proofs.GrowthLaws.{further}
+use Rattle.typed_contexts.proofs.GrowthLaws.{further}
 use Rattle.typing_steps.specs.declared.state.CheckState.{CheckState}
 use Rattle.typing_tasks.specs.declared.tasks.Task.{Task}
 use Rattle.typing_tasks.specs.declared.tasks.Tasks.{Tasks}

@@ -14,7 +14,7 @@ use Rattle.interned.specs.Coding.{thing_after}
 use Rattle.interned.specs.Coded.{AreCoded, things_coded, thing_of}
 use Rattle.interned.proofs.CodingLaws.{opened-coded, made-kind}
 use Rattle.interned.proofs.CodedLaws.{row_there}
-use Rattle.shifts.specs.Spans.{size_of}
+use Rattle.substitution_laws.specs.Spans.{size_of}
 
 -- contexts among these are no longer than their places
 Short : ℕ → Meanings → Type 0

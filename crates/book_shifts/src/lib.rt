@@ -12,11 +12,11 @@ ghost use Rattle.trees.specs.Trees.{Subst};
 ghost use Rattle.trees.specs.Judgements.{Context};
 ghost use Rattle.trees.specs.Language.{Sb};
 ghost use Rattle.trees.specs.Things.{AContext};
-ghost use Rattle.shifts.specs.Spans.{size_of};
+ghost use Rattle.substitution_laws.specs.Spans.{size_of};
 ghost use Rattle.book.specs.Shown.{book_means, book_concludes};
 
 use book::Book;
-use shifts::substitutions_span_contexts;
+use substitution_laws::substitutions_span_contexts;
 
 /// A context of a book has a row for each of its entries, and a substitution that a node concludes
 /// shifts no further than its context goes: neither is more than the rows of a book.

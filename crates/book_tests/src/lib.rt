@@ -12,11 +12,6 @@ ghost use Rattle.recipes.specs.Derivations.{Derives};
 ghost use Rattle.book_tests.specs.Stated.{two_statement, successor_statement, constant_statement};
 ghost use Rattle.book_tests.specs.Stated.{twice_statement, variables_statement, earlier};
 
-/// The rows of a table, each on a line of its own however long.
-macro_rules! table {
-    ($($row:expr,)*) => { &[$($row),*] };
-}
-
 mod constant;
 mod growth;
 mod runs;

@@ -1,7 +1,7 @@
 //! Written by tools/write_recipes.py.
 
-use recipes::Row;
 use recipes::Row::{Conclude, Make, Nil, Var, WithVar};
+use recipes::{Row, table};
 use theory::ContextRule::CtxNil;
 use theory::InstanceRule::TmVar;
 use theory::NatRule::{NatU, Suc, Zero};

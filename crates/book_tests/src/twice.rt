@@ -1,7 +1,7 @@
 //! Written by tools/write_recipes.py.
 
-use recipes::Row;
 use recipes::Row::{Conclude, Part, Premise};
+use recipes::{Row, table};
 use theory::ContextRule::SubComp;
 use theory::RuleName::Contexts;
 

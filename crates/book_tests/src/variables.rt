@@ -1,7 +1,7 @@
 //! Written by tools/write_recipes.py.
 
-use recipes::Row;
 use recipes::Row::{Conclude, Make, Nil, Shift, Var, WithVar};
+use recipes::{Row, table};
 use theory::ContextRule::{CtxNil, CtxVar, SubId, SubWk};
 use theory::InstanceRule::{TmSub, TmVar};
 use theory::NatRule::NatU;

@@ -1,7 +1,7 @@
 //! What is printed, with which status, over objects in memory.
 
 use crate::running::{run_over, words_of};
-use edge::{MemFiles, MemSink};
+use host_io::{MemFiles, MemSink};
 use session::{Status, answers_exclude_each_other};
 use std::alloc::{AllocError, Global};
 use std::process::Abort;

@@ -2,7 +2,7 @@
 
 use crate::modules::{Is, MODULES};
 use crate::running::{run_over, words_of};
-use edge::{MemFiles, MemSink};
+use host_io::{MemFiles, MemSink};
 use std::alloc::{AllocError, Global};
 use std::process::Abort;
 use std::test::Fail;

@@ -1,6 +1,6 @@
 //! Words that are run over files in memory.
 
-use edge::{MemFiles, MemSink, MemSource};
+use host_io::{MemFiles, MemSink, MemSource};
 use session::{Status, run};
 use std::alloc::{AllocError, Global};
 

@@ -3,7 +3,7 @@
 use crate::words::{code_is, formula_is};
 use codes::Code;
 use layout_lexer::Span;
-use references::References;
+use name_resolution::References;
 use scopes::{Binding, Place, Scope, ScopeNames};
 use std::alloc::AllocError;
 use std::process::Abort;

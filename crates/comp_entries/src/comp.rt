@@ -1,7 +1,7 @@
 //! Written by tools/write_entries.py.
 
-use recipes::Row;
 use recipes::Row::{Conclude, Make, Part, Premise, Push, Shift, WithName};
+use recipes::{Row, table};
 use theory::ContextRule::{SubForm, SubId};
 use theory::InstanceRule::TySub;
 use theory::Op;

@@ -1,7 +1,7 @@
 //! Written by tools/write_entries.py.
 
-use recipes::Row;
 use recipes::Row::{Conclude, Instance, Make, Part, Premise, Push, Shift, WithFace, WithName};
+use recipes::{Row, table};
 use theory::CompRule::Comp;
 use theory::ContextRule::{SubForm, SubId, SubWkFace};
 use theory::InstanceRule::{TmSub, TySub};

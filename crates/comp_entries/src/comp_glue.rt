@@ -1,7 +1,7 @@
 //! Written by tools/write_entries.py.
 
-use recipes::Row;
 use recipes::Row::{Conclude, Instance, Make, Part, Premise, Push, Shift, Var, WithFace, WithName};
+use recipes::{Row, table};
 use theory::CompRule::Comp;
 use theory::ContextRule::{SubFace, SubForm, SubId, SubWkFace};
 use theory::GlueRule::GlueTy;

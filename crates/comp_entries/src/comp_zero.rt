@@ -1,7 +1,7 @@
 //! Written by tools/write_entries.py.
 
-use recipes::Row;
 use recipes::Row::{Conclude, Make, Part, Premise, Shift, WithFace, WithName};
+use recipes::{Row, table};
 use theory::CompRule::Comp;
 use theory::ContextRule::{CtxName, SubId, SubWkFace, SubWkName};
 use theory::EqualityRule::TmEqRefl;

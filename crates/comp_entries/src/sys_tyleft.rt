@@ -1,7 +1,7 @@
 //! Written by tools/write_entries.py.
 
-use recipes::Row;
 use recipes::Row::{Conclude, Make, Part, Premise, Shift, WithFace};
+use recipes::{Row, table};
 use theory::ContextRule::{SubId, SubWkFace};
 use theory::InstanceRule::TySub;
 use theory::Op;

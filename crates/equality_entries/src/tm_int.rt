@@ -1,7 +1,7 @@
 //! Written by tools/write_entries.py.
 
-use recipes::Row;
 use recipes::Row::{Conclude, Instance, Part, Premise};
+use recipes::{Row, table};
 use theory::EqualityRule::{TmConv, TyEqSym};
 use theory::InstanceRule::{TmSub, TyInt, TySub};
 use theory::RuleName::{Equality, Instances};

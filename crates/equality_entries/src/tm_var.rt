@@ -1,7 +1,7 @@
 //! Written by tools/write_entries.py.
 
-use recipes::Row;
 use recipes::Row::{Conclude, Part, Premise, Shift, WithVar};
+use recipes::{Row, table};
 use theory::ContextRule::{CtxVar, SubId, SubWk};
 use theory::InstanceRule::TySub;
 use theory::RuleName::{Contexts, Instances};

@@ -1,7 +1,7 @@
 //! Written by tools/write_recipes.py.
 
-use recipes::Row;
 use recipes::Row::{Conclude, Instance, Make, Part, Premise, Shift, Var, WithName, WithVar};
+use recipes::{Row, table};
 use theory::ContextRule::{CtxVar, SubId, SubWk, SubWkName};
 use theory::EqualityRule::TmEqRefl;
 use theory::InstanceRule::{TmSub, TmVar, TyEqSub, TySub};

@@ -1,7 +1,7 @@
 //! Written by tools/write_entries.py.
 
-use recipes::Row;
 use recipes::Row::{Conclude, Make, Part, Premise};
+use recipes::{Row, table};
 use theory::GlueRule::{Glue, Unglue};
 use theory::Op;
 use theory::RuleName::Gluing;

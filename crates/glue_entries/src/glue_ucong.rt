@@ -1,7 +1,7 @@
 //! Written by tools/write_entries.py.
 
-use recipes::Row;
 use recipes::Row::{Conclude, Derive, Instance, Make, Part, Premise, Shift, Var, WithFace};
+use recipes::{Row, table};
 use theory::ContextRule::{SubFace, SubId, SubWkFace};
 use theory::EqualityRule::TmConv;
 use theory::GlueRule::GlueU;

@@ -14,11 +14,6 @@ ghost use Rattle.trees.specs.Judgements.{Context, trees};
 ghost use Rattle.trees.specs.Things.{AContext, ATree};
 ghost use Rattle.glue_entries.specs.Statements.{equiv_tycong, equiv_tycong_statement};
 
-/// The rows of a table, each on a line of its own however long.
-macro_rules! table {
-    ($($row:expr,)*) => { &[$($row),*] };
-}
-
 mod equiv_tycong;
 mod glue;
 mod glue_beta;

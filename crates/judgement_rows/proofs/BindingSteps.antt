@@ -11,7 +11,7 @@ use Rattle.form_rows.specs.Meant.{Is, Are, AreTrees, nest}
 use Rattle.form_rows.proofs.RowLaws.{trees_kept}
 use Rattle.judgement_rows.specs.declared.places.Place.{Place}
 use Rattle.judgement_rows.specs.declared.places.Under.{Under}
-use Rattle.numbered.specs.declared.numbered.Numbered.{Numbered}
+use Rattle.numbered_scope.specs.declared.numbered.Numbered.{Numbered}
 use Rattle.judgement_rows.specs.declared.bodies.Body.{Body}
 use Rattle.judgement_rows.specs.Places.{BoundIn, AllNamedIn}
 use Rattle.judgement_rows.specs.Steps.{State, FitsSome, Spells, Row}

@@ -22,9 +22,9 @@ use Rattle.form_rows.proofs.RowLaws.{kept_then, is_kept, are_kept}
 use Rattle.judgement_rows.specs.declared.places.Place.{Place}
 use Rattle.judgement_rows.specs.declared.places.Under.{Under}
 use Rattle.judgement_rows.specs.declared.bodies.Body.{Body}
-use Rattle.numbered.specs.Newest.{newest, later}
-use Rattle.numbered.specs.declared.numbered.Numbered.{Numbered}
-use Rattle.numbered.proofs.Searches.{newest_append}
+use Rattle.numbered_scope.specs.Newest.{newest, later}
+use Rattle.numbered_scope.specs.declared.numbered.Numbered.{Numbered}
+use Rattle.numbered_scope.proofs.Searches.{newest_append}
 use Rattle.judgement_rows.specs.Steps.{State, Fits, Stands, StandsFor, Moves, Spells, Row}
 use Rattle.judgement_rows.specs.Words.{IsUnder, Defines}
 use Rattle.judgement_rows.specs.Under.{entered, folded}

@@ -21,7 +21,7 @@ use Rattle.form_rows.proofs.RowLaws.{kept_then, is_kept}
 use Rattle.judgement_rows.specs.declared.places.Place.{Place}
 use Rattle.judgement_rows.specs.declared.places.Faced.{Faced}
 use Rattle.judgement_rows.specs.declared.bodies.Body.{Body}
-use Rattle.numbered.specs.Newest.{newest}
+use Rattle.numbered_scope.specs.Newest.{newest}
 use Rattle.judgement_rows.specs.Places.{OpenedIn, NamedIn, HoldIn}
 use Rattle.judgement_rows.specs.Steps.{State, Fits, FitsSome, StandsFor, Claims, Moves, Spells}
 

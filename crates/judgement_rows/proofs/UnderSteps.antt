@@ -15,7 +15,7 @@ use Rattle.form_rows.proofs.RowLaws.{kept_then, are_kept, are_none, are_more, ar
 use Rattle.judgement_rows.specs.declared.places.Place.{Place}
 use Rattle.judgement_rows.specs.declared.places.Under.{Under}
 use Rattle.judgement_rows.specs.declared.bodies.Body.{Body}
-use Rattle.numbered.specs.Newest.{newest}
+use Rattle.numbered_scope.specs.Newest.{newest}
 use Rattle.judgement_rows.specs.Places.{BoundIn, AllNamedIn, copies}
 use Rattle.judgement_rows.specs.Steps.{State, Fits, FitsSome, StandsFor, Moves, Spells, Row, depth_of}
 use Rattle.judgement_rows.specs.Words.{IsUnder}

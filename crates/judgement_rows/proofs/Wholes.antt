@@ -11,9 +11,9 @@ use Rattle.codes.specs.Codes.{definitions}
 use Rattle.form_rows.specs.Meant.{Is}
 use Rattle.rows.specs.Views.{IsTree}
 use Rattle.form_rows.proofs.RowLaws.{tree_of_is}
-use Rattle.numbered.specs.declared.numbered.Numbered.{Numbered}
+use Rattle.numbered_scope.specs.declared.numbered.Numbered.{Numbered}
 use Rattle.judgement_rows.specs.declared.bodies.Body.{Body}
-use Rattle.numbered.specs.Newest.{newest}
+use Rattle.numbered_scope.specs.Newest.{newest}
 use Rattle.judgement_rows.specs.Steps.{State, Fits, Stands, StandsFor}
 use Rattle.judgement_rows.specs.Words.{Defines, block_scope}
 

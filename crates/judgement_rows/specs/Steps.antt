@@ -14,10 +14,10 @@ use Rattle.translation.specs.Forms.{Means}
 use Rattle.codes.specs.Codes.{body_of}
 use Rattle.form_rows.specs.Meant.{Is, Are, nest}
 use Rattle.judgement_rows.specs.declared.places.Place.{Place}
-use Rattle.numbered.specs.declared.numbered.Numbered.{Numbered}
+use Rattle.numbered_scope.specs.declared.numbered.Numbered.{Numbered}
 use Rattle.judgement_rows.specs.declared.bodies.Body.{Body}
 use Rattle.judgement_rows.specs.declared.terms.Spelling.{Spelling}
-use Rattle.numbered.specs.Newest.{newest}
+use Rattle.numbered_scope.specs.Newest.{newest}
 
 -- what rows mean, the bodies in scope and the claims so far
 pub record State : Type 0 where

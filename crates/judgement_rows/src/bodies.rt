@@ -1,6 +1,6 @@
 //! The bodies of the definitions in scope.
 
-use numbered::ByNumber;
+use numbered_scope::ByNumber;
 
 /// The body of a definition, as it was spelt at a place of that depth.
 #[derive(Clone, Copy, Debug)]

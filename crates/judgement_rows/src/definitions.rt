@@ -16,7 +16,7 @@ use crate::places::Place;
 use crate::terms::Spelling;
 use codes::CodeDef;
 use form_rows::{lifted, nested};
-use numbered::Numbered;
+use numbered_scope::Numbered;
 use rows::Maker;
 use std::alloc::{AllocError, Global};
 use trees::{Claim, Op};

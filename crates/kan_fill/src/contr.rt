@@ -1,7 +1,7 @@
 //! Written by tools/write_recipes.py.
 
-use recipes::Row;
 use recipes::Row::{Conclude, Instance, Make, Part, Premise, Push, Shift, Var, WithFace, WithName};
+use recipes::{Row, table};
 use theory::CompRule::{Comp, CompFace};
 use theory::ContextRule::{CtxFace, SubId, SubWkFace, SubWkName};
 use theory::EqualityRule::{TmEqSym, TmEqTrans};

@@ -1,9 +1,9 @@
 //! Written by tools/write_recipes.py.
 
-use recipes::Row;
 use recipes::Row::{
     Conclude, Derive, Instance, Make, Part, Premise, Push, Shift, Var, WithName, WithVar,
 };
+use recipes::{Row, table};
 use theory::ContextRule::{SubId, SubWk, SubWkName};
 use theory::InstanceRule::{TmSub, TmVar, TySub};
 use theory::Op;

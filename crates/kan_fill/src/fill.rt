@@ -1,7 +1,7 @@
 //! Written by tools/write_recipes.py.
 
-use recipes::Row;
 use recipes::Row::{Conclude, Instance, Make, Part, Premise, Push, Shift, Var, WithFace, WithName};
+use recipes::{Row, table};
 use theory::CompRule::{Comp, CompCong, CompFace};
 use theory::ContextRule::{CtxFace, SubFace, SubForm, SubId, SubWkFace, SubWkName};
 use theory::EqualityRule::{

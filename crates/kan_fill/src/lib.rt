@@ -20,11 +20,6 @@ ghost use Rattle.kan_fill.specs.Statements.{fill_statement, contr_statement, pre
 ghost use Rattle.kan_fill.specs.Statements.{ext_statement};
 ghost use Rattle.kan_fill.specs.Statements.{filling, contraction, preservation, extension};
 
-/// The rows of a table, each on a line of its own however long.
-macro_rules! table {
-    ($($row:expr,)*) => { &[$($row),*] };
-}
-
 mod contr;
 mod ext;
 mod fill;

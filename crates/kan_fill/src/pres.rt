@@ -1,9 +1,9 @@
 //! Written by tools/write_recipes.py.
 
-use recipes::Row;
 use recipes::Row::{
     Conclude, Derive, Instance, Make, Part, Premise, Push, Shift, Var, WithFace, WithName,
 };
+use recipes::{Row, table};
 use theory::CompRule::{Comp, CompCong, CompFace};
 use theory::ContextRule::{CtxFace, CtxName, SubFace, SubForm, SubId, SubWkFace, SubWkName};
 use theory::EqualityRule::{TmEqRefl, TmEqSym, TmEqTrans, TyEqRefl};

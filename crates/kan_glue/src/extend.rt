@@ -1,7 +1,7 @@
 //! Written by tools/write_recipes.py.
 
-use recipes::Row;
 use recipes::Row::{Conclude, Derive, Field, Instance, Make, Part, Premise, Shift, Var};
+use recipes::{Row, table};
 use theory::ContextRule::{CtxFace, SubFace, SubId, SubVar, SubWk, SubWkFace, SubWkName};
 use theory::EqualityRule::{TmEqAbsurd, TmEqRefl, TmEqSym, TmEqTrans};
 use theory::InstanceRule::{TmEqSub, TmSub, TmVar, TySub};

@@ -12,11 +12,6 @@ ghost use Rattle.kan_calls.specs.Unfoldings.{unfold_statement};
 ghost use Rattle.theory.specs.declared.rule.CompRule.TheVariants.{CompGlue};
 ghost use Rattle.theory.specs.declared.rule.RuleName.TheVariants.{Composition};
 
-/// The rows of a table, each on a line of its own however long.
-macro_rules! table {
-    ($($row:expr,)*) => { &[$($row),*] };
-}
-
 mod calls;
 mod comp_glue;
 mod extend;

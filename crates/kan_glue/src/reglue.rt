@@ -1,7 +1,7 @@
 //! Written by tools/write_recipes.py.
 
-use recipes::Row;
 use recipes::Row::{Conclude, Field, Instance, Make, Part, Premise, Shift, Var};
+use recipes::{Row, table};
 use theory::CompRule::{Comp, CompFace};
 use theory::ContextRule::{CtxFace, CtxName, SubFace, SubForm, SubId, SubWkFace, SubWkName};
 use theory::EqualityRule::{TmEqAbsurd, TmEqCover, TmEqSym, TmEqTrans};

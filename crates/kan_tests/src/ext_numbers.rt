@@ -1,9 +1,9 @@
 //! Written by tools/write_recipes.py.
 
-use recipes::Row;
 use recipes::Row::{
     Conclude, Derive, Instance, Make, Nil, Push, Shift, Then, Var, WithFace, WithName, WithVar,
 };
+use recipes::{Row, table};
 use theory::ContextRule::{
     CtxName, CtxNil, CtxVar, SubForm, SubId, SubVar, SubWk, SubWkFace, SubWkName,
 };

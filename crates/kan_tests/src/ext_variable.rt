@@ -1,9 +1,9 @@
 //! Written by tools/write_recipes.py.
 
-use recipes::Row;
 use recipes::Row::{
     Conclude, Derive, Instance, Make, Nil, Shift, Var, WithFace, WithName, WithVar,
 };
+use recipes::{Row, table};
 use theory::ContextRule::{CtxName, CtxNil, CtxVar, SubId, SubWk, SubWkFace, SubWkName};
 use theory::InstanceRule::{TmSub, TmVar, TySub};
 use theory::NatRule::{NatU, Zero};

@@ -14,11 +14,6 @@ ghost use Rattle.kan_tests.specs.Fillings.{carried_statement, lifted_statement, 
 ghost use Rattle.kan_tests.specs.Fillings.{identity_statement, premises_statement, moved_statement};
 ghost use Rattle.kan_tests.specs.Fillings.{contracted_statement, raised_statement, before_last};
 
-/// The rows of a table, each on a line of its own however long.
-macro_rules! table {
-    ($($row:expr,)*) => { &[$($row),*] };
-}
-
 mod calls;
 mod contr_variable;
 mod ext_numbers;

@@ -1,7 +1,7 @@
 //! Written by tools/write_recipes.py.
 
-use recipes::Row;
 use recipes::Row::{Conclude, Derive, Make, Nil, Var, WithFace, WithName};
+use recipes::{Row, table};
 use theory::ContextRule::{CtxFace, CtxName, CtxNil};
 use theory::EqualityRule::TmEqRefl;
 use theory::InstanceRule::TmVar;

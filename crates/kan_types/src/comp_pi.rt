@@ -1,7 +1,7 @@
 //! Written by tools/write_recipes.py.
 
-use recipes::Row;
 use recipes::Row::{Conclude, Derive, Field, Instance, Make, Part, Premise, Push, Shift, Var};
+use recipes::{Row, table};
 use theory::CompRule::{Comp, CompPi};
 use theory::ContextRule::{
     CtxName, CtxVar, SubFace, SubForm, SubId, SubVar, SubWk, SubWkFace, SubWkName,

@@ -1,7 +1,7 @@
 //! Written by tools/write_recipes.py.
 
-use recipes::Row;
 use recipes::Row::{Conclude, Derive, Field, Instance, Make, Part, Premise, Push, Shift, Var};
+use recipes::{Row, table};
 use theory::CompRule::{Comp, CompSig};
 use theory::ContextRule::{CtxName, SubFace, SubForm, SubId, SubVar, SubWk, SubWkFace, SubWkName};
 use theory::EqualityRule::{TmConv, TmEqConv, TmEqSym};

@@ -1,7 +1,7 @@
 //! Written by tools/write_recipes.py.
 
-use recipes::Row;
 use recipes::Row::{Conclude, Field, Part, Premise};
+use recipes::{Row, table};
 use theory::CompRule::{Comp, CompSuc};
 use theory::ContextRule::CtxName;
 use theory::NatRule::{NatU, Suc};

@@ -1,7 +1,7 @@
 //! Written by tools/write_recipes.py.
 
-use recipes::Row;
 use recipes::Row::{Conclude, Part, Premise};
+use recipes::{Row, table};
 use theory::CompRule::CompZero;
 use theory::NatRule::Zero;
 use theory::RuleName::{Composition, Naturals};

@@ -16,11 +16,6 @@ ghost use Rattle.recipes.specs.Derivations.{Derives};
 ghost use Rattle.kan_fill.specs.Statements.{kan_statements};
 ghost use Rattle.kan_calls.specs.Unfoldings.{unfold_statement};
 
-/// The rows of a table, each on a line of its own however long.
-macro_rules! table {
-    ($($row:expr,)*) => { &[$($row),*] };
-}
-
 mod calls;
 mod comp_path;
 mod comp_pi;

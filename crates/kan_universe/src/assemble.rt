@@ -1,7 +1,7 @@
 //! Written by tools/write_recipes.py.
 
-use recipes::Row;
 use recipes::Row::{Conclude, Field, Make, Part, Premise, Shift, Var};
+use recipes::{Row, table};
 use theory::ContextRule::{CtxVar, SubForm, SubId, SubVar, SubWk, SubWkName};
 use theory::EqualityRule::{TmConv, TmEqConv, TmEqSym, TmEqTrans};
 use theory::InstanceRule::{TmSub, TmVar, TyCong, TySub};

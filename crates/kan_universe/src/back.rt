@@ -1,7 +1,7 @@
 //! Written by tools/write_recipes.py.
 
-use recipes::Row;
 use recipes::Row::{Conclude, Derive, Field, Make, Part, Premise, Shift, Var};
+use recipes::{Row, table};
 use theory::ContextRule::{SubFace, SubForm, SubId, SubWkFace, SubWkName};
 use theory::EqualityRule::{TmConv, TmEqAbsurd, TmEqConv};
 use theory::InstanceRule::{TmEqSub, TmSub, TyInt, TySub};

@@ -1,7 +1,7 @@
 //! Written by tools/write_recipes.py.
 
-use recipes::Row;
 use recipes::Row::{Conclude, Derive, Field, Make, Part, Premise, Shift, Var};
+use recipes::{Row, table};
 use theory::CompRule::CompU;
 use theory::ContextRule::{CtxFace, SubForm, SubId, SubWkFace, SubWkName};
 use theory::EqualityRule::{TmConv, TyEqSym, TyEqTrans};

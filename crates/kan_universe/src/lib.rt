@@ -18,11 +18,6 @@ ghost use Rattle.kan_universe.specs.Lines.{square_statement};
 ghost use Rattle.theory.specs.declared.rule.CompRule.TheVariants.{CompU};
 ghost use Rattle.theory.specs.declared.rule.RuleName.TheVariants.{Composition};
 
-/// The rows of a table, each on a line of its own however long.
-macro_rules! table {
-    ($($row:expr,)*) => { &[$($row),*] };
-}
-
 mod assemble;
 mod back;
 mod calls;

@@ -1,7 +1,7 @@
 //! Written by tools/write_recipes.py.
 
-use recipes::Row;
 use recipes::Row::{Conclude, Derive, Field, Make, Part, Premise, Shift, Var};
+use recipes::{Row, table};
 use theory::ContextRule::{SubForm, SubId, SubWkFace, SubWkName};
 use theory::EqualityRule::TmEqAbsurd;
 use theory::InstanceRule::{TmSub, TySub};

@@ -16,7 +16,7 @@ use Rattle.scopes.specs.declared.scope.Scope.{Scope as ScopeOf}
 use Rattle.scopes.specs.declared.scope.ScopeName.{ScopeName}
 use Rattle.scopes.specs.Steps.{count_from, named_of}
 use Rattle.scopes.proofs.Moving.{count_append}
-use Rattle.readings.specs.Shaped.{Become, after_definition}
+use Rattle.resolved_forms.specs.Shaped.{Become, after_definition}
 use Rattle.module_texts.specs.declared.text.ModuleText.{ModuleText}
 use Rattle.module_texts.specs.Texts.{Text, imports_of, name_of, text_of}
 use Rattle.resolver.specs.declared.resolving.Codes.{Codes}

@@ -8,7 +8,7 @@ use Rattle.codes.specs.declared.code.CodeDef.{CodeDef, out-CodeDef}
 use Rattle.codes.specs.Codes.{definitions}
 use Rattle.codes.specs.Shapes.{def_shape, listed}
 use Rattle.scopes.specs.Steps.{count_from, named_of}
-use Rattle.readings.specs.Shaped.{Become, after_definition}
+use Rattle.resolved_forms.specs.Shaped.{Become, after_definition}
 use Rattle.module_texts.specs.Texts.{Text, imports_of}
 use Rattle.resolver.specs.declared.resolving.Codes.{Codes}
 use Rattle.resolver.specs.Resolved.{AreEarlier, IsTop, bound_by, definitions_of, defs_in, entry}

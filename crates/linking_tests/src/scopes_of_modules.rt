@@ -1,6 +1,6 @@
 //! Modules and the names that they may use of others.
 
-use edge::MemFiles;
+use host_io::MemFiles;
 use linking::link;
 use loading::{ModuleText, load};
 use resolver::{Code, CodeDef};

@@ -9,11 +9,6 @@
 //! ```
 #![tactic(auto)]
 
-/// The rows of a table, each on a line of its own however long.
-macro_rules! table {
-    ($($row:expr,)*) => { &[$($row),*] };
-}
-
 mod equation_instance;
 mod equations;
 mod equations_joined;

@@ -12,11 +12,11 @@ ghost use Rattle.literal_terms.specs.Forms.{IsFormed, IsPaired};
 use crate::forms::Paired;
 use book::{Book, Few, NodeId};
 use book_shifts::laws_of_shifts;
-use literal_types::number_at;
-use openings::{
+use inversion_rules::{
     OPEN_LAM, OPEN_LAM_GIVES, OPEN_PAIR, OPEN_PAIR_GIVES, OPEN_PLAM, OPEN_PLAM_GIVES,
     forms_are_opened, statements_at_trees,
 };
+use literal_types::number_at;
 use std::alloc::AllocError;
 use typed_nodes::{derive_two, derived};
 

@@ -8,7 +8,7 @@ use Rattle.trees.specs.Things.{ATree}
 use Rattle.substitution.proofs.ThenLaws.{apply-then, apply-id}
 use Rattle.substitution.proofs.BinderLaws.{apply-weaken}
 use Rattle.rules.specs.Table.{pathp, pi, sig, weakened}
-use Rattle.shifts.specs.Spans.{size_of}
+use Rattle.substitution_laws.specs.Spans.{size_of}
 use Rattle.book.specs.Contents.{Contents}
 use Rattle.book.specs.declared.kernel.NodeId.{NodeId}
 use Rattle.typed_nodes.specs.declared.types.TypeAt.{TypeAt}

@@ -4,7 +4,7 @@ use Rattle.std.specs.Prelude.{reverse, slice_index_or, String, string_bytes, Res
 use Rattle.std.specs.declared.alloc.Global.{Global}
 use Rattle.std.specs.List.{Any, Contains}
 use Rattle.std.proofs.lemmas.List.{get_or-map, get_or-reverse, length-reverse, map_push, reverse-append, reverse-reverse, length-map}
-use Rattle.edge.specs.Files.{Held}
+use Rattle.host_io.specs.Files.{Held}
 use Rattle.module_texts.specs.declared.text.ModuleText.{ModuleText}
 use Rattle.loading.specs.declared.text.LoadFault.{LoadFault}
 use Rattle.loading.specs.declared.text.LoadFault.TheVariants as fault

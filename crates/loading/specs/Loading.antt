@@ -2,7 +2,7 @@
 use Rattle.std.specs.Prelude.{◌≡◌, ◌<◌, ◌≤◌, ◌+◌, ℕ, List, [], ◌∷◌, ◌++◌, length}
 use Rattle.std.specs.Prelude.{Option, string_bytes}
 use Rattle.std.specs.List.{Any, Contains}
-use Rattle.edge.specs.Files.{Held}
+use Rattle.host_io.specs.Files.{Held}
 use Rattle.loading.specs.declared.text.LoadFault.{LoadFault}
 use Rattle.loading.specs.declared.text.LoadFault.TheVariants as fault
 use Rattle.loading.specs.Texts.{IsText, FailsAt}

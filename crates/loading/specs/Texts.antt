@@ -1,9 +1,9 @@
 -- What the file of one module holds, and how that is read.
 use Rattle.std.specs.Prelude.{◌≡◌, ◌≢◌, ℕ, List, length}
 use Rattle.std.specs.Prelude.{None, Some, Option, Result, Ok, Err, string_bytes}
-use Rattle.edge.specs.Counts.{FileCounts, counted_fetch}
-use Rattle.edge.specs.Files.{Held, HoldsAt}
-use Rattle.edge.specs.declared.files.Fetched.TheVariants as fetched
+use Rattle.host_io.specs.Counts.{FileCounts, counted_fetch}
+use Rattle.host_io.specs.Files.{Held, HoldsAt}
+use Rattle.host_io.specs.declared.files.Fetched.TheVariants as fetched
 use Rattle.layout_lexer.specs.declared.token.Token.{Token}
 use Rattle.layout_lexer.specs.declared.fault.LexFault.{LexFault}
 use Rattle.layout_lexer.specs.declared.fault.LexFault.TheVariants as lex_fault

@@ -1,7 +1,7 @@
 //! Laws of loading.
 
 ghost use Rattle.std.specs.Prelude.{◌≡◌, ℕ, List, [], ◌∷◌, Some};
-ghost use Rattle.edge.specs.Files.{Held};
+ghost use Rattle.host_io.specs.Files.{Held};
 ghost use Rattle.module_texts.specs.Texts.{Text};
 ghost use Rattle.loading.specs.declared.text.LoadFault.{LoadFault};
 ghost use Rattle.loading.specs.Loading.{Loads, Refuses};

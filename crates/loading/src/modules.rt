@@ -11,7 +11,7 @@ ghost use Rattle.module_texts.specs.Texts.{text_of};
 use crate::begun::Begun;
 use crate::named::is_among;
 use crate::text::{LoadFault, read_text};
-use edge::Files;
+use host_io::Files;
 use module_texts::{ModuleText, name_at, path_of};
 use std::alloc::{AllocError, Global};
 

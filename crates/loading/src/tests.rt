@@ -1,7 +1,7 @@
 //! Modules and what they import.
 
 use crate::{LoadFault, ModuleText, laws_of_loading, load};
-use edge::MemFiles;
+use host_io::MemFiles;
 use std::alloc::{AllocError, Global};
 use std::test::Fail;
 

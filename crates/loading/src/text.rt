@@ -5,8 +5,8 @@ ghost use Rattle.syntax.specs.View.{module_of};
 ghost use Rattle.loading.specs.Texts.{CountsAfter, FailsAt, FailsIn, IsText, ReadsAs};
 ghost use Rattle.module_texts.specs.Texts.{path_of, text_of};
 
-use edge::{Fetched, Files};
 use grammar::{ReadFault, read};
+use host_io::{Fetched, Files};
 use layout_lexer::{LexFault, tokens};
 use module_texts::ModuleText;
 use std::alloc::{AllocError, Global};

@@ -7,11 +7,6 @@
 //! ```
 #![tactic(auto)]
 
-/// The rows of a table, each on a line of its own however long.
-macro_rules! table {
-    ($($row:expr,)*) => { &[$($row),*] };
-}
-
 mod app;
 mod app_cong;
 mod fst_cong;

@@ -1,7 +1,7 @@
 //! Written by tools/write_entries.py.
 
-use recipes::Row;
 use recipes::Row::{Conclude, Instance, Part, Premise, Push, Shift, Var, WithVar};
+use recipes::{Row, table};
 use theory::ContextRule::{SubId, SubVar, SubWk};
 use theory::EqualityRule::{TmConv, TyEqSym};
 use theory::InstanceRule::{TmVar, TyEqSub, TySub};

@@ -1,7 +1,7 @@
 //! Written by tools/write_entries.py.
 
-use recipes::Row;
 use recipes::Row::{Conclude, Part, Premise};
+use recipes::{Row, table};
 use theory::RuleName::Universe;
 use theory::UniverseRule::TyUniv;
 

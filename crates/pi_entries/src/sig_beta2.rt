@@ -1,7 +1,7 @@
 //! Written by tools/write_entries.py.
 
-use recipes::Row;
 use recipes::Row::{Conclude, Instance, Make, Part, Premise, Push, Shift};
+use recipes::{Row, table};
 use theory::ContextRule::SubId;
 use theory::EqualityRule::TmConv;
 use theory::InstanceRule::TyCong;

@@ -1,7 +1,7 @@
 //! Written by tools/write_entries.py.
 
-use recipes::Row;
 use recipes::Row::{Conclude, Instance, Make, Part, Premise, Push, Shift, WithVar};
+use recipes::{Row, table};
 use theory::ContextRule::{SubId, SubVar};
 use theory::EqualityRule::{TmConv, TmEqSym};
 use theory::InstanceRule::{TyCong, TySub};

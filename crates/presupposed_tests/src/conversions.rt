@@ -1,7 +1,7 @@
 //! Written by tools/write_recipes.py.
 
-use recipes::Row;
 use recipes::Row::{Conclude, Make, Nil, Var, WithVar};
+use recipes::{Row, table};
 use theory::ContextRule::{CtxNil, CtxVar};
 use theory::EqualityRule::{TmConv, TyEqSym};
 use theory::InstanceRule::TmVar;

@@ -6,11 +6,6 @@
 //! ```
 #![tactic(auto)]
 
-/// The rows of a table, each on a line of its own however long.
-macro_rules! table {
-    ($($row:expr,)*) => { &[$($row),*] };
-}
-
 mod asked;
 mod conversions;
 mod derived;

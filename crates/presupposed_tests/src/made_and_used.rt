@@ -1,7 +1,7 @@
 //! Written by tools/write_recipes.py.
 
-use recipes::Row;
 use recipes::Row::{Conclude, Make, Nil, Var, WithName, WithVar};
+use recipes::{Row, table};
 use theory::ContextRule::{CtxName, CtxNil, CtxVar};
 use theory::EqualityRule::TmEqRefl;
 use theory::InstanceRule::TmVar;

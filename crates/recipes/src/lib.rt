@@ -28,6 +28,12 @@ ghost use Rattle.recipes.specs.Statements.{Statement, pattern_of};
 ghost use Rattle.recipes.specs.Derivations.{Derives};
 ghost use Rattle.recipes.specs.Checks.{SideTest, IsSound, is_derived};
 
+/// The rows of a table, each on a line of its own however long.
+#[macro_export]
+macro_rules! table {
+    ($($row:expr,)*) => { &[$($row),*] };
+}
+
 mod row;
 
 pub use row::{MOST_PARTS, MOST_PREMISES, MOST_WANTED, Row};

@@ -21,14 +21,14 @@ use Rattle.scopes.specs.declared.names.Found.TheVariants as found
 use Rattle.scopes.specs.declared.names.Binding.TheVariants as binding
 use Rattle.scopes.specs.Finding.{Named, find}
 use Rattle.scopes.specs.Steps.{State, Progress, Resolves}
-use Rattle.readings.specs.Spelt.{code_pair, code_term, named_of, plain_of, words_of}
-use Rattle.readings.proofs.FormLaws.{answer_fits}
-use Rattle.readings.proofs.Applied.{leading, plain_named}
-use Rattle.readings.specs.Shaped.{Becomes, Become, Term, Line, Motive, Pair as PairAt, IsTerm, AreTerms, IsLine, IsMotive, IsPair, AreBinders, after_all, bound_in, numbers, tuple, under_tele}
-use Rattle.readings.proofs.Shaping.{term_among}
+use Rattle.resolved_forms.specs.Spelt.{code_pair, code_term, named_of, plain_of, words_of}
+use Rattle.resolved_forms.proofs.FormLaws.{answer_fits}
+use Rattle.resolved_forms.proofs.Applied.{leading, plain_named}
+use Rattle.resolved_forms.specs.Shaped.{Becomes, Become, Term, Line, Motive, Pair as PairAt, IsTerm, AreTerms, IsLine, IsMotive, IsPair, AreBinders, after_all, bound_in, numbers, tuple, under_tele}
+use Rattle.resolved_forms.proofs.Shaping.{term_among}
 use Rattle.resolver.specs.declared.systems.Pair.{Pair}
-use Rattle.readings.specs.Opening.{IsUnder}
-use Rattle.readings.specs.Opened.{LineUnder, MotiveUnder, PairOf}
+use Rattle.resolved_forms.specs.Opening.{IsUnder}
+use Rattle.resolved_forms.specs.Opened.{LineUnder, MotiveUnder, PairOf}
 
 pub pair_answer_is : {E : Type 0} (s t : State) {f h : Means Word (Tree × Tree)} (r : Result Pair E)
     → f ≡ h → IfOk r (λ p. Resolves s t f (code_pair p.ty p.equivalence)) → IfOk r (λ p. Resolves s t h (code_pair p.ty p.equivalence))

@@ -18,8 +18,8 @@ use Rattle.codes.specs.Codes.{meaning, definitions}
 use Rattle.scopes.specs.declared.scope.ScopeName.{ScopeName}
 use Rattle.scopes.specs.Steps.{State, Progress, Agree, Moves, Same, Resolves, Opens, count_from, named_of}
 use Rattle.scopes.proofs.Starting.{agree_start}
-use Rattle.readings.specs.Spelt.{read, code_term, code_block, code_names, term_of, block_of, written_in, def_names}
-use Rattle.readings.proofs.Spelling.{names_written, block_spelt}
+use Rattle.resolved_forms.specs.Spelt.{read, code_term, code_block, code_names, term_of, block_of, written_in, def_names}
+use Rattle.resolved_forms.proofs.Spelling.{names_written, block_spelt}
 use Rattle.resolver.specs.declared.resolving.Codes.{Codes}
 use Rattle.resolver.specs.Resolved.{AreEarlier, IsCode, IsFault, AreCodes, IsFaultOf, Holds, IsTop, words, defs_in}
 use Rattle.resolver.proofs.Leaving.{earlier_reversed, leaves}

@@ -17,7 +17,7 @@ use Rattle.codes.specs.Codes.{meaning, definitions, body_of}
 use Rattle.codes.specs.Shapes.{shape, def_shape, listed}
 use Rattle.scopes.specs.Finding.{Named}
 use Rattle.scopes.specs.Steps.{count_from, named_of}
-use Rattle.readings.specs.Shaped.{Becomes, Become, Term, after_definition}
+use Rattle.resolved_forms.specs.Shaped.{Becomes, Become, Term, after_definition}
 
 -- The names of other modules, each with the body that its number has in a code's scope.
 abbrev pub entry : Scope ℕ → ScopeName → Entry Word

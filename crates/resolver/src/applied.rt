@@ -7,14 +7,14 @@ ghost use Rattle.translation.specs.Texts.{word};
 ghost use Rattle.scopes.specs.declared.names.Found.TheVariants.{BuiltIn as a_built_in};
 ghost use Rattle.scopes.specs.Finding.{find};
 ghost use Rattle.scopes.specs.Steps.{Resolves};
-ghost use Rattle.readings.specs.Shaped.{
+ghost use Rattle.resolved_forms.specs.Shaped.{
   AreElements,
   IsApplied,
   IsElement,
   IsPlain,
   IsTerm,
 };
-ghost use Rattle.readings.specs.Spelt.{
+ghost use Rattle.resolved_forms.specs.Spelt.{
   Applies,
   code_element,
   code_elements,
@@ -30,7 +30,7 @@ ghost use Rattle.resolver.specs.Forms.{IsApply, IsProject};
 use crate::resolving::Resolver;
 use codes::{Code, Element};
 use layout_lexer::Span;
-use readings::{first_argument, projected};
+use resolved_forms::{first_argument, projected};
 use scopes::{Found, Place};
 use std::alloc::AllocError;
 use syntax::Element::{Argument, At};

@@ -2,13 +2,13 @@
 
 ghost use Rattle.std.specs.Prelude.{IfOk};
 ghost use Rattle.scopes.specs.Steps.{Resolves};
-ghost use Rattle.readings.specs.Shaped.{IsTerm};
-ghost use Rattle.readings.specs.Spelt.{code_term, term_of};
+ghost use Rattle.resolved_forms.specs.Shaped.{IsTerm};
+ghost use Rattle.resolved_forms.specs.Spelt.{code_term, term_of};
 ghost use Rattle.resolver.specs.Forms.{IsArrow, IsLambda, IsLet, IsPathLambda, IsPi, IsSigma};
 
 use crate::resolving::Resolver;
 use codes::Code;
-use readings::arrow;
+use resolved_forms::arrow;
 use scopes::{Binding, Place};
 use std::alloc::AllocError;
 use syntax::Exp;

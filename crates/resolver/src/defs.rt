@@ -4,8 +4,8 @@ ghost use Rattle.std.specs.Prelude.{◌≡◌, IfOk};
 ghost use Rattle.syntax.specs.declared.exp.Def.{out-Def};
 ghost use Rattle.codes.specs.declared.code.CodeDef.{out-CodeDef};
 ghost use Rattle.scopes.specs.Steps.{Binds, Defines, Opens};
-ghost use Rattle.readings.specs.Shaped.{AreBinders, AreDefs, IsDef};
-ghost use Rattle.readings.specs.Spelt.{
+ghost use Rattle.resolved_forms.specs.Shaped.{AreBinders, AreDefs, IsDef};
+ghost use Rattle.resolved_forms.specs.Spelt.{
   binders_of,
   block_of,
   code_binders,
@@ -19,7 +19,7 @@ ghost use Rattle.readings.specs.Spelt.{
 
 use crate::resolving::Resolver;
 use codes::{Binder, CodeDef};
-use readings::{binder, with_locals};
+use resolved_forms::{binder, with_locals};
 use scopes::Place;
 use std::alloc::AllocError;
 use syntax::{Def, Tele};

@@ -3,13 +3,13 @@
 ghost use Rattle.std.specs.Prelude.{IfOk, map};
 ghost use Rattle.translation.specs.Forms.{tuple as tupled};
 ghost use Rattle.scopes.specs.Steps.{Resolves};
-ghost use Rattle.readings.specs.Shaped.{AreTerms, IsTerm, IsTuple};
-ghost use Rattle.readings.specs.Spelt.{code_term, code_terms, term_of, terms_of};
+ghost use Rattle.resolved_forms.specs.Shaped.{AreTerms, IsTerm, IsTuple};
+ghost use Rattle.resolved_forms.specs.Spelt.{code_term, code_terms, term_of, terms_of};
 
 use crate::resolving::Resolver;
 use codes::Code;
 use layout_lexer::Span;
-use readings::tuple;
+use resolved_forms::tuple;
 use scopes::Place;
 use std::alloc::AllocError;
 use syntax::Exp;

@@ -2,8 +2,8 @@
 
 ghost use Rattle.std.specs.Prelude.{IfOk};
 ghost use Rattle.scopes.specs.Steps.{Resolves};
-ghost use Rattle.readings.specs.Shaped.{IsTerm};
-ghost use Rattle.readings.specs.Spelt.{code_term, term_of};
+ghost use Rattle.resolved_forms.specs.Shaped.{IsTerm};
+ghost use Rattle.resolved_forms.specs.Spelt.{code_term, term_of};
 ghost use Rattle.resolver.specs.Forms.{IsGlueTerm, IsGlueType, IsUnglue};
 
 use crate::resolving::Resolver;

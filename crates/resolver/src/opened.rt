@@ -2,13 +2,15 @@
 
 ghost use Rattle.std.specs.Prelude.{IfOk};
 ghost use Rattle.scopes.specs.Steps.{Resolves};
-ghost use Rattle.readings.specs.Shaped.{IsLine, IsMotive};
-ghost use Rattle.readings.specs.Spelt.{code_line, code_motive, line_of, motive_of};
+ghost use Rattle.resolved_forms.specs.Shaped.{IsLine, IsMotive};
+ghost use Rattle.resolved_forms.specs.Spelt.{code_line, code_motive, line_of, motive_of};
 
 use crate::resolving::Resolver;
 use codes::{Code, Opened};
 use layout_lexer::Span;
-use readings::{LineText, MotiveText, line_text, line_under, motive_text, motive_under, open_at};
+use resolved_forms::{
+    LineText, MotiveText, line_text, line_under, motive_text, motive_under, open_at,
+};
 use scopes::{Binding, Place};
 use std::alloc::AllocError;
 use syntax::Exp;

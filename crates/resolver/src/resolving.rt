@@ -6,7 +6,7 @@ ghost use Rattle.resolver.specs.Resolved.{AreCodes, AreEarlier, AreSpelt, IsCode
 ghost use Rattle.resolver.specs.Resolved.{defs_in, IsFaultOf, IsSpelt};
 
 use codes::{Code, CodeDef};
-use references::References;
+use name_resolution::References;
 use scopes::{Place, Scope};
 use std::alloc::{AllocError, Global};
 use syntax::{Exp, Module};

@@ -3,8 +3,8 @@
 ghost use Rattle.std.specs.Prelude.{◌≡◌, IfOk};
 ghost use Rattle.codes.specs.Shapes.{shape, Universe as a_universe};
 ghost use Rattle.scopes.specs.Steps.{Resolves};
-ghost use Rattle.readings.specs.Shaped.{AreLineSides, ArePairSides, AreSides, IsPair, IsTerm};
-ghost use Rattle.readings.specs.Spelt.{
+ghost use Rattle.resolved_forms.specs.Shaped.{AreLineSides, ArePairSides, AreSides, IsPair, IsTerm};
+ghost use Rattle.resolved_forms.specs.Spelt.{
   code_line_sides,
   code_pair,
   code_pair_sides,
@@ -19,7 +19,7 @@ ghost use Rattle.readings.specs.Spelt.{
 use crate::resolving::Resolver;
 use codes::{Code, LineSide, PairSide, Side};
 use layout_lexer::Span;
-use readings::{PairText, pair_text, tuple};
+use resolved_forms::{PairText, pair_text, tuple};
 use scopes::Place;
 use std::alloc::AllocError;
 use syntax::Exp;

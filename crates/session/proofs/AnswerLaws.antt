@@ -2,7 +2,7 @@
 use Rattle.std.proofs.Common.{◌≡◌, ◌≢◌, ℕ, ◌++◌, List, [], ◌∷◌, slice_get, refl, sym, ◌∙◌, ap, subst, Option, Some, None, codes}
 use Rattle.std.specs.Prelude.{string_bytes, String}
 use Rattle.std.specs.declared.alloc.Global.{Global}
-use Rattle.edge.specs.Files.{Held}
+use Rattle.host_io.specs.Files.{Held}
 use Rattle.layout_lexer.specs.declared.fault.LexFault.{LexFault}
 use Rattle.layout_lexer.specs.declared.fault.LexFault.TheVariants as lex
 use Rattle.grammar.specs.declared.reading.ReadFault.{ReadFault}

@@ -3,11 +3,11 @@ use Rattle.std.proofs.Common.{◌≡◌, ◌≢◌, IsErr, ◌<◌, ◌+◌, ℕ
 use Rattle.std.proofs.lemmas.List.{flat_map_more, take_more}
 use Rattle.std.specs.declared.alloc.AllocError.{AllocError}
 use Rattle.std.specs.List.{AllZip}
-use Rattle.edge.specs.Counts.{FileCounts, counted_store}
-use Rattle.edge.specs.Files.{Held}
-use Rattle.edge.specs.Seen.{SeenFiles}
-use Rattle.edge.specs.declared.files.Stored.{Stored}
-use Rattle.edge.specs.declared.files.Stored.TheVariants as stored
+use Rattle.host_io.specs.Counts.{FileCounts, counted_store}
+use Rattle.host_io.specs.Files.{Held}
+use Rattle.host_io.specs.Seen.{SeenFiles}
+use Rattle.host_io.specs.declared.files.Stored.{Stored}
+use Rattle.host_io.specs.declared.files.Stored.TheVariants as stored
 use Rattle.trees.specs.Judgements.{Judgement}
 use Rattle.trees.specs.Language.{Ty, Tm}
 use Rattle.trees.specs.Things.{both, consed}

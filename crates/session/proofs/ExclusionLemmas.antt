@@ -6,7 +6,7 @@ use Rattle.std.proofs.lemmas.Bool.{cases_lt}
 use Rattle.trees.specs.Judgements.{Judgement}
 use Rattle.derivation.proofs.UniqueLaws.{derives_one, no_bad, bad_one}
 use Rattle.replay.specs.declared.judging.Verdict.TheVariants.{Yes, No}
-use Rattle.edge.specs.Files.{Held, HoldsAt}
+use Rattle.host_io.specs.Files.{Held, HoldsAt}
 use Rattle.session.specs.declared.outcome.Outcome.{Outcome}
 use Rattle.session.specs.declared.outcome.Outcome.TheVariants as outcome
 use Rattle.session.specs.Modules.{DifferAt}

@@ -2,7 +2,7 @@
 use Rattle.std.proofs.Common.{◌≡◌, ◌≢◌, ◌<◌, ℕ, zero, suc, List, [], ◌∷◌, length, get_or, slice_get, sym, ap, subst, arith, Some, None, Result, Err}
 use Rattle.std.specs.Prelude.{String}
 use Rattle.std.specs.declared.alloc.Global.{Global}
-use Rattle.edge.specs.Seen.{SeenFiles}
+use Rattle.host_io.specs.Seen.{SeenFiles}
 use Rattle.layout_lexer.specs.declared.fault.LexFault.{LexFault}
 use Rattle.layout_lexer.specs.declared.fault.LexFault.TheVariants as lex
 use Rattle.grammar.specs.declared.reading.ReadFault.{ReadFault}

@@ -2,17 +2,17 @@
 use Rattle.std.proofs.Common.{◌≡◌, ◌≢◌, ℕ, List, [], length, slice_get, sym, ◌∙◌, ap, subst, Some, None}
 use Rattle.std.specs.Prelude.{string_bytes, String}
 use Rattle.std.specs.declared.alloc.Global.{Global}
-use Rattle.edge.specs.Files.{Held}
-use Rattle.edge.specs.Seen.{SeenFiles}
-use Rattle.edge.specs.declared.files.Stored.{Stored}
-use Rattle.edge.specs.declared.files.Stored.TheVariants as stored
+use Rattle.host_io.specs.Files.{Held}
+use Rattle.host_io.specs.Seen.{SeenFiles}
+use Rattle.host_io.specs.declared.files.Stored.{Stored}
+use Rattle.host_io.specs.declared.files.Stored.TheVariants as stored
 use Rattle.module_texts.specs.Texts.{Text, path_of}
 use Rattle.resolver.specs.declared.resolving.Codes.{Codes}
 use Rattle.resolver.specs.Resolved.{defs_in}
 use Rattle.linking.specs.Modules.{AreFine, meanings}
 use Rattle.linking.specs.Linked.{IsLinked}
 use Rattle.direct.specs.Direct.{other_place}
-use Rattle.determined.proofs.ProgramLaws.{one_answer}
+use Rattle.text_laws.proofs.ProgramLaws.{one_answer}
 use Rattle.session.specs.declared.outcome.Outcome.{Outcome}
 use Rattle.session.specs.declared.outcome.Outcome.TheVariants as outcome
 use Rattle.session.specs.declared.refusal.Cause.TheVariants as cause

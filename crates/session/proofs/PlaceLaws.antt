@@ -11,8 +11,8 @@ use Rattle.syntax.proofs.Rows.{defs_of_items}
 use Rattle.translation.specs.Texts.{Written, defs}
 use Rattle.codes.specs.declared.code.CodeDef.{CodeDef, out-CodeDef}
 use Rattle.codes.proofs.Logs.{map_append}
-use Rattle.readings.specs.Spelt.{written_in, def_names}
-use Rattle.readings.proofs.Spelling.{names_written}
+use Rattle.resolved_forms.specs.Spelt.{written_in, def_names}
+use Rattle.resolved_forms.proofs.Spelling.{names_written}
 use Rattle.resolver.specs.declared.resolving.Codes.{Codes}
 use Rattle.resolver.specs.Resolved.{defs_in}
 use Rattle.module_texts.specs.declared.text.ModuleText.{ModuleText}

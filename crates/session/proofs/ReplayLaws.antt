@@ -2,8 +2,8 @@
 use Rattle.std.proofs.Common.{◌≡◌, ℕ, List, sym, ap, Option, Some, None, Result, Ok, Err, IfOk}
 use Rattle.std.specs.Option.{option_map, option_copied}
 use denote.Ref.{Bor}
-use Rattle.edge.specs.Files.{Held, HoldsAt}
-use Rattle.edge.specs.Seen.{SeenFiles}
+use Rattle.host_io.specs.Files.{Held, HoldsAt}
+use Rattle.host_io.specs.Seen.{SeenFiles}
 use Rattle.trees.specs.Judgements.{Judgement}
 use Rattle.translation.specs.Translated.{judgements_of}
 use Rattle.session.specs.declared.program.Program.{Program}

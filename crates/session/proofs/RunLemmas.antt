@@ -1,8 +1,8 @@
 -- What a command leaves whose outcome is known.
 use Rattle.std.proofs.Common.{◌≡◌, ◌≢◌, ℕ, List, subst, None, Some, Option}
-use Rattle.edge.specs.Seen.{SeenFiles}
-use Rattle.edge.specs.declared.files.Stored.{Stored}
-use Rattle.edge.specs.declared.files.Stored.TheVariants as stored
+use Rattle.host_io.specs.Seen.{SeenFiles}
+use Rattle.host_io.specs.declared.files.Stored.{Stored}
+use Rattle.host_io.specs.declared.files.Stored.TheVariants as stored
 use Rattle.session.specs.declared.outcome.Outcome.{Outcome}
 use Rattle.session.specs.declared.outcome.Outcome.TheVariants as outcome
 use Rattle.session.specs.Words.{Command, Check, Replay}

@@ -4,7 +4,7 @@ use Rattle.std.proofs.lemmas.List.{take-append-drop}
 use Rattle.std.proofs.Math.Seq.{take-append_seam}
 use Rattle.std.specs.Prelude.{◌==◌}
 use Rattle.std.specs.Io.KnownBytes.{Appends, Keeps}
-use Rattle.edge.specs.Seen.{SeenSink}
+use Rattle.host_io.specs.Seen.{SeenSink}
 use Rattle.session.specs.declared.top.WriteFault.{WriteFault}
 use Rattle.session.specs.Writes.{CutOff, Wrote}
 

@@ -1,8 +1,8 @@
 -- What a command may answer, and what is then printed.
 use Rattle.std.specs.Prelude.{◌≡◌, ◌≢◌, ◌⊎◌, ℕ, List, length, None, Some}
 use Rattle.std.specs.Prelude.{string_bytes, Option}
-use Rattle.edge.specs.Files.{Held, HoldsAt}
-use Rattle.edge.specs.Seen.{SeenFiles, SeenSource, SeenSink}
+use Rattle.host_io.specs.Files.{Held, HoldsAt}
+use Rattle.host_io.specs.Seen.{SeenFiles, SeenSource, SeenSink}
 use Rattle.trees.specs.Judgements.{Judgement}
 use Rattle.derivation.specs.Right.{AllRight, Derives, FirstBad}
 use Rattle.replay.specs.declared.judging.Verdict.{Verdict}

@@ -4,11 +4,11 @@ use Rattle.std.specs.Prelude.{Option, Some, None, Result, IfOk, OnErr, String, s
 use Rattle.std.specs.List.{flat_map}
 use Rattle.std.specs.declared.alloc.Global.{Global}
 use Rattle.std.specs.declared.alloc.AllocError.{AllocError}
-use Rattle.edge.specs.Counts.{counted_store}
-use Rattle.edge.specs.Files.{Held, StoreDoes}
-use Rattle.edge.specs.Seen.{SeenFiles}
-use Rattle.edge.specs.declared.files.Stored.{Stored}
-use Rattle.edge.specs.declared.files.Stored.TheVariants as stored
+use Rattle.host_io.specs.Counts.{counted_store}
+use Rattle.host_io.specs.Files.{Held, StoreDoes}
+use Rattle.host_io.specs.Seen.{SeenFiles}
+use Rattle.host_io.specs.declared.files.Stored.{Stored}
+use Rattle.host_io.specs.declared.files.Stored.TheVariants as stored
 use Rattle.layout_lexer.specs.declared.token.Span.{Span}
 use Rattle.translation.specs.Translated.{judgements_of}
 use Rattle.codes.specs.declared.code.CodeDef.{CodeDef}

@@ -7,8 +7,8 @@ use Rattle.trees.specs.Judgements.{Judgement}
 use Rattle.translation.specs.Translated.{Stated, judgements_of}
 use Rattle.codes.specs.declared.code.CodeDef.{CodeDef}
 use Rattle.codes.specs.Codes.{definitions}
-use Rattle.edge.specs.Files.{Held}
-use Rattle.edge.specs.Seen.{SeenFiles}
+use Rattle.host_io.specs.Files.{Held}
+use Rattle.host_io.specs.Seen.{SeenFiles}
 use Rattle.module_texts.specs.Texts.{Text, text_of}
 use Rattle.resolver.specs.declared.resolving.Codes.{Codes}
 use Rattle.resolver.specs.Resolved.{defs_in}

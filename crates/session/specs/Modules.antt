@@ -2,7 +2,7 @@
 use Rattle.std.specs.Prelude.{◌≡◌, ◌≢◌, ℕ, List, [], ◌∷◌, take, slice_get, Option, None, Some}
 use Rattle.std.specs.Prelude.{String, string_bytes}
 use Rattle.std.specs.declared.alloc.Global.{Global}
-use Rattle.edge.specs.Files.{Held}
+use Rattle.host_io.specs.Files.{Held}
 use Rattle.trees.specs.Judgements.{Judgement}
 use Rattle.translation.specs.declared.fault.ScopeFault.{ScopeFault}
 use Rattle.loading.specs.declared.text.LoadFault.{LoadFault}

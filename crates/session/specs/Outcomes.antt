@@ -1,9 +1,9 @@
 -- What outcomes are in print, and what is counted and stored.
 use Rattle.std.specs.Prelude.{◌≡◌, ℕ, List, ◌++◌, codes, decimal, string_bytes}
-use Rattle.edge.specs.Counts.{FileCounts, counted_fetch, counted_store}
-use Rattle.edge.specs.declared.files.Fetched.TheVariants as fetched
-use Rattle.edge.specs.declared.files.Stored.TheVariants as stored
-use Rattle.edge.specs.Seen.{SeenFiles}
+use Rattle.host_io.specs.Counts.{FileCounts, counted_fetch, counted_store}
+use Rattle.host_io.specs.declared.files.Fetched.TheVariants as fetched
+use Rattle.host_io.specs.declared.files.Stored.TheVariants as stored
+use Rattle.host_io.specs.Seen.{SeenFiles}
 use Rattle.replay.specs.declared.judging.Verdict.TheVariants.{Yes, No}
 use Rattle.session.specs.declared.outcome.Status.{Status}
 use Rattle.session.specs.declared.outcome.Status.TheVariants as status

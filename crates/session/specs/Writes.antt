@@ -1,8 +1,8 @@
 -- What the writing of a text leaves.
 use Rattle.std.specs.Prelude.{◌≡◌, ◌<◌, ℕ, List, length, take, drop, Result, Ok, Err}
 use Rattle.std.specs.Io.KnownBytes.{Appends, Keeps}
-use Rattle.edge.specs.Counts.{one_more}
-use Rattle.edge.specs.Seen.{SeenSink}
+use Rattle.host_io.specs.Counts.{one_more}
+use Rattle.host_io.specs.Seen.{SeenSink}
 use Rattle.session.specs.declared.top.WriteFault.{WriteFault}
 use denote.Ref.{Bor}
 

@@ -4,7 +4,7 @@ ghost use Rattle.std.specs.Prelude.{◌≡◌, ◌<◌, ℕ, List, IfOk, IsErr, 
 ghost use Rattle.std.specs.Prelude.{slice_get};
 ghost use Rattle.trees.specs.Judgements.{Judgement};
 ghost use Rattle.resolver.specs.Resolved.{defs_in};
-ghost use Rattle.edge.specs.Seen.{seen_files};
+ghost use Rattle.host_io.specs.Seen.{seen_files};
 ghost use Rattle.module_texts.specs.Texts.{text_of};
 ghost use Rattle.linking.specs.Linked.{IsLinked};
 ghost use Rattle.book_writer.specs.Written.{IsWritten, concluded_by};
@@ -19,7 +19,7 @@ use crate::refusal::{Cause, refused};
 use bidirect::{Checked, Root, check_definitions};
 use book::{Book, NodeId};
 use book_writer::write;
-use edge::{Files, Stored};
+use host_io::{Files, Stored};
 use module_texts::{ModuleText, path_of};
 use resolver::CodeDef;
 use std::alloc::{AllocError, Global};

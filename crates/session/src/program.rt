@@ -1,13 +1,13 @@
 //! A module with those that its imports reach.
 
 ghost use Rattle.std.specs.Prelude.{IfOk};
-ghost use Rattle.edge.specs.Seen.{seen_files};
+ghost use Rattle.host_io.specs.Seen.{seen_files};
 ghost use Rattle.session.specs.Outcomes.{StoresNothing};
 ghost use Rattle.session.specs.Loaded.{IsProgram};
 
 use crate::outcome::Outcome;
 use crate::refusal::{of_load, of_scope};
-use edge::Files;
+use host_io::Files;
 use linking::link;
 use loading::load;
 use module_texts::{ModuleText, path_of};

@@ -1,7 +1,7 @@
 //! The top call: it does what the words ask for, and prints how that ended.
 
 ghost use Rattle.std.specs.Prelude.{◌≡◌, ◌≢◌, [], IfOk, IsErr};
-ghost use Rattle.edge.specs.Seen.{seen_files, seen_source, seen_sink};
+ghost use Rattle.host_io.specs.Seen.{seen_files, seen_source, seen_sink};
 ghost use Rattle.session.specs.Answers.{MayAnswer, MayStore, Printed, Ran, world};
 ghost use Rattle.session.specs.Outcomes.{plain_text, status_of};
 ghost use Rattle.session.specs.Words.{command, texts};
@@ -11,7 +11,7 @@ use crate::check_command::check;
 use crate::outcome::{Outcome, Status};
 use crate::replay_command::replay;
 use crate::words::{Command, command_of};
-use edge::{Files, Sink, Source, Took};
+use host_io::{Files, Sink, Source, Took};
 use std::alloc::{AllocError, Global};
 
 /// A write that failed.

@@ -1,3 +1,4 @@
 pub mod Tested
 pub mod Families
 pub mod NamedLaws
+pub mod FormLaws

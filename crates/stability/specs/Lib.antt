@@ -2,3 +2,4 @@ pub mod Depths
 pub mod Moved
 pub mod Stable
 pub mod Named
+pub mod Alike

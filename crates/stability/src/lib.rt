@@ -1,4 +1,4 @@
-//! The table of rules, checked by two other ways. Nothing here runs.
+//! The table of rules, checked by other ways. Nothing here runs.
 //!
 //! The rules are stable under substitution: what is an instance of a rule over a context G becomes
 //! an instance of it over H, along any substitution from H to G. The table is read at patterns,
@@ -20,6 +20,13 @@
 //! // the table                                       with names
 //! sig T (pathp (twice A) y+ (app f+ (var 0)))        sig T (λ x. pathp (λ i. A) y (app f x))
 //! ```
+//!
+//! And what forms of a text mean is made of the operators and the derived trees of the table:
+//! `translation` names them for trees alone, and the table for each language.
+//!
+//! ```text
+//! forms_are_of_the_table();        // so `fill A p b a r` of a text is the table's, at trees
+//! ```
 #![tactic(auto)]
 
 ghost use Rattle.theory.specs.declared.rule.EqualityRule.{EqualityRule};
@@ -39,6 +46,7 @@ ghost use Rattle.trees.specs.Trees.{Tree};
 ghost use Rattle.trees.specs.Judgements.{trees};
 ghost use Rattle.rules.specs.Table.{motive_step, equiv, comp_pi, comp_sig, comp_path, comp_glue};
 ghost use Rattle.rules.specs.Table.{comp_u};
+ghost use Rattle.stability.specs.Alike.{SameOperators, SameTerms, SameSystems};
 ghost use Rattle.stability.specs.Named.{named_step, named_equiv, named_pi, named_sig, named_path};
 ghost use Rattle.stability.specs.Named.{named_glue, named_u};
 ghost use Rattle.stability.specs.Depths.{equality_depths, universe_depths, pi_depths};
@@ -74,4 +82,12 @@ pub fn trees_are_named()
     ensures gluing { (A q T w p b a : Tree) →
         comp_glue trees A q T w p b a ≡ named_glue trees A q T w p b a }
     ensures universe { (p b a : Tree) → comp_u trees p b a ≡ named_u trees p b a }
+{}
+
+/// A law, and no code: each operator that a form of a text stands for is that of the rules, and so
+/// are covers and bodies of systems, lines along formulas, and filling.
+pub fn forms_are_of_the_table()
+    ensures operators { SameOperators }
+    ensures terms { SameTerms }
+    ensures systems { SameSystems }
 {}

@@ -1,7 +1,7 @@
 //! Written by tools/write_recipes.py.
 
-use recipes::Row;
 use recipes::Row::{Conclude, Field, Instance, Premise, Push, Shift, Then, Var};
+use recipes::{Row, table};
 use theory::ContextRule::SubVar;
 use theory::PiRule::App;
 use theory::RuleName::{Contexts, Pi};

@@ -47,11 +47,6 @@ ghost use Rattle.typing_rules.specs.Terms.{path_term_statement, recursion_statem
 ghost use Rattle.typing_rules.specs.Terms.{second_statement, successor_term_statement};
 ghost use Rattle.typing_rules.specs.Terms.{transported_statement, zero_term_statement};
 
-/// The rows of a table, each on a line of its own however long.
-macro_rules! table {
-    ($($row:expr,)*) => { &[$($row),*] };
-}
-
 mod applied;
 mod composed;
 mod family_of_numbers;

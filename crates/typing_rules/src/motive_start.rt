@@ -1,7 +1,7 @@
 //! Written by tools/write_recipes.py.
 
-use recipes::Row;
 use recipes::Row::{Conclude, Field, Make, Premise, Shift};
+use recipes::{Row, table};
 use theory::ContextRule::{SubId, SubVar};
 use theory::NatRule::{NatU, Zero};
 use theory::Op;

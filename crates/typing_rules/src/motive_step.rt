@@ -1,7 +1,7 @@
 //! Written by tools/write_recipes.py.
 
-use recipes::Row;
 use recipes::Row::{Conclude, Field, Instance, Make, Premise, Push, Shift, Var, WithVar};
+use recipes::{Row, table};
 use theory::ContextRule::{CtxVar, SubId, SubVar, SubWk};
 use theory::InstanceRule::{TmSub, TmVar, TySub};
 use theory::NatRule::{NatU, Suc};

@@ -1,7 +1,7 @@
 //! Written by tools/write_recipes.py.
 
-use recipes::Row;
 use recipes::Row::{Conclude, Field, Make, Premise};
+use recipes::{Row, table};
 use theory::NatRule::NatU;
 use theory::Op;
 use theory::RuleName::{Naturals, Universe};

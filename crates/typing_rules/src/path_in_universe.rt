@@ -1,7 +1,7 @@
 //! Written by tools/write_recipes.py.
 
-use recipes::Row;
 use recipes::Row::{Conclude, Field, Instance, Make, Part, Premise, Shift, Var, WithName};
+use recipes::{Row, table};
 use theory::ContextRule::{SubId, SubWkName};
 use theory::InstanceRule::TmSub;
 use theory::Op;

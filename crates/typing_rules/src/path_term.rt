@@ -1,7 +1,7 @@
 //! Written by tools/write_recipes.py.
 
-use recipes::Row;
 use recipes::Row::{Conclude, Field, Instance, Make, Premise, Push, Shift, WithName};
+use recipes::{Row, table};
 use theory::ContextRule::{SubForm, SubId};
 use theory::EqualityRule::TmEqRefl;
 use theory::InstanceRule::TmSub;

@@ -1,7 +1,7 @@
 //! Written by tools/write_recipes.py.
 
-use recipes::Row;
 use recipes::Row::{Conclude, Field, Premise};
+use recipes::{Row, table};
 use theory::PiRule::PiU;
 use theory::RuleName::Pi;
 

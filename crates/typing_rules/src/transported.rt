@@ -1,9 +1,9 @@
 //! Written by tools/write_recipes.py.
 
-use recipes::Row;
 use recipes::Row::{
     Conclude, Field, Instance, Make, Premise, Push, Shift, Var, WithFace, WithName,
 };
+use recipes::{Row, table};
 use theory::CompRule::Comp;
 use theory::ContextRule::{CtxFace, SubForm, SubId, SubWkFace, SubWkName};
 use theory::EqualityRule::TmEqAbsurd;

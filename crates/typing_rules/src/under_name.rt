@@ -1,7 +1,7 @@
 //! Written by tools/write_recipes.py.
 
-use recipes::Row;
 use recipes::Row::{Conclude, Field, Premise, Shift, Then, Var, WithName};
+use recipes::{Row, table};
 use theory::ContextRule::{SubForm, SubWkName};
 use theory::RuleName::Contexts;
 

@@ -1,7 +1,7 @@
 //! Written by tools/write_recipes.py.
 
-use recipes::Row;
 use recipes::Row::{Conclude, Field, Instance, Premise, Shift, Then, Var, WithVar};
+use recipes::{Row, table};
 use theory::ContextRule::{SubVar, SubWk};
 use theory::InstanceRule::{TmVar, TySub};
 use theory::RuleName::{Contexts, Instances};

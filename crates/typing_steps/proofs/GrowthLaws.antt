@@ -9,10 +9,10 @@ use Rattle.translation.specs.Translated.{Stated}
 use Rattle.book.specs.Contents.{Contents}
 use Rattle.book.specs.Shown.{Extends}
 use Rattle.direct.specs.Known.{Known, Variable, Interval, Definition}
-use Rattle.numbered.specs.declared.numbered.Numbered.{Numbered}
+use Rattle.numbered_scope.specs.declared.numbered.Numbered.{Numbered}
 use Rattle.typed_nodes.specs.Typed.{Says}
 use Rattle.typed_nodes.proofs.GrowthLaws.{says_later, type_at_later, typed_later, family_later}
-use Rattle.places.proofs.GrowthLaws.{place_later}
+use Rattle.typed_contexts.proofs.GrowthLaws.{place_later}
 use Rattle.typing_steps.specs.declared.state.Root.{Root}
 use Rattle.typing_steps.specs.declared.state.InScope.{InScope}
 use Rattle.typing_steps.specs.declared.state.CheckState.{CheckState}

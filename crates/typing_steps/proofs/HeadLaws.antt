@@ -35,9 +35,9 @@ use Rattle.typed_nodes.proofs.GrowthLaws.{says_later, line_later}
 use Rattle.literal_types.specs.declared.forms.Literal.{Literal}
 use Rattle.literal_types.specs.declared.forms.Literal.TheVariants.{Pi, Sigma, Path, Other}
 use Rattle.literal_types.specs.Literal.{IsLiteral}
-use Rattle.places.specs.declared.place.Places.{Places}
-use Rattle.places.specs.Places.{IsPlace}
-use Rattle.places.proofs.GrowthLaws.{further, place_later}
+use Rattle.typed_contexts.specs.declared.place.Places.{Places}
+use Rattle.typed_contexts.specs.Places.{IsPlace}
+use Rattle.typed_contexts.proofs.GrowthLaws.{further, place_later}
 use Rattle.typing_steps.specs.declared.state.CheckState.{CheckState}
 use Rattle.typing_tasks.specs.declared.tasks.Tasks.{Tasks}
 use Rattle.typing_tasks.specs.declared.tasks.Next.{Next}

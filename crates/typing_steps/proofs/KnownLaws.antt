@@ -8,11 +8,11 @@ use Rattle.translation.specs.Terms.{lifted}
 use Rattle.codes.specs.Codes.{body_of}
 use Rattle.book.specs.Contents.{Contents}
 use Rattle.direct.specs.Known.{Known, Variable, Interval, Definition, scope_of, type_of_variable, declared_type}
-use Rattle.numbered.specs.declared.numbered.Numbered.{Numbered}
-use Rattle.numbered.specs.Newest.{newest, later}
-use Rattle.numbered.proofs.Searches.{newest_append}
-use Rattle.places.specs.Contexts.{depth_of, outside, at_depth, type_in}
-use Rattle.places.proofs.ContextLaws.{weaken-shift_by}
+use Rattle.numbered_scope.specs.declared.numbered.Numbered.{Numbered}
+use Rattle.numbered_scope.specs.Newest.{newest, later}
+use Rattle.numbered_scope.proofs.Searches.{newest_append}
+use Rattle.typed_contexts.specs.Contexts.{depth_of, outside, at_depth, type_in}
+use Rattle.typed_contexts.proofs.ContextLaws.{weaken-shift_by}
 use Rattle.typing_steps.specs.declared.state.InScope.{InScope}
 use Rattle.typing_tasks.specs.States.{place_of}
 use Rattle.typing_steps.specs.Steps.{AreInScope, IsRoot}

@@ -16,7 +16,7 @@ use Rattle.book.specs.declared.kernel.NodeId.{NodeId}
 use Rattle.literal_types.specs.declared.forms.Literal.{Literal}
 use Rattle.literal_types.specs.declared.forms.Literal.TheVariants.{Pi, Sigma, Path, Other}
 use Rattle.literal_types.specs.Literal.{IsLiteral}
-use Rattle.places.proofs.GrowthLaws.{further}
+use Rattle.typed_contexts.proofs.GrowthLaws.{further}
 use Rattle.direct.specs.Known.{Known, Interval, value_at}
 use Rattle.direct.specs.Typings.{Typing, where_true, names_check}
 use Rattle.direct.specs.Literal.{same_tree, at, sigma_of, path_type_of}

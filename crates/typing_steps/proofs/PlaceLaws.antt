@@ -7,7 +7,7 @@ use Rattle.translation.specs.Terms.{universe, lifted}
 use Rattle.book.specs.Contents.{Contents}
 use Rattle.book.specs.declared.kernel.NodeId.{NodeId}
 use Rattle.typed_nodes.specs.Typed.{Says}
-use Rattle.places.specs.Contexts.{depth_of, outside, at_depth}
+use Rattle.typed_contexts.specs.Contexts.{depth_of, outside, at_depth}
 
 module _ (H K : Context) (B : Tree) (n : ℕ) (is : H ≡ WithVar K B) (deep : n ≡ depth_of H) where
   deeper : n ≡ suc (depth_of K)

@@ -8,11 +8,11 @@ use Rattle.trees.specs.Language.{Ty, Tm}
 use Rattle.translation.specs.Translated.{Stated}
 use Rattle.book.specs.Contents.{Contents}
 use Rattle.direct.specs.Known.{Known, Variable, Interval, Definition}
-use Rattle.numbered.specs.declared.numbered.Numbered.{Numbered}
+use Rattle.numbered_scope.specs.declared.numbered.Numbered.{Numbered}
 use Rattle.typed_nodes.specs.Typed.{Says}
-use Rattle.places.specs.declared.place.Places.{Places}
-use Rattle.places.specs.Places.{IsPlace}
-use Rattle.places.specs.Contexts.{depth_of}
+use Rattle.typed_contexts.specs.declared.place.Places.{Places}
+use Rattle.typed_contexts.specs.Places.{IsPlace}
+use Rattle.typed_contexts.specs.Contexts.{depth_of}
 use Rattle.typing_steps.specs.declared.state.Root.{Root}
 use Rattle.typing_steps.specs.declared.state.InScope.{InScope}
 use Rattle.typing_tasks.specs.States.{place_of, forgetting}

@@ -17,15 +17,15 @@ use Rattle.book.specs.Shown.{book_means}
 use Rattle.direct.specs.Known.{Known, Variable, Interval, Definition, value_at}
 use Rattle.direct.specs.Typings.{where_true}
 use Rattle.direct.specs.Literal.{same_tree, at, pi_of, path_type_of}
-use Rattle.places.specs.Contexts.{depth_of}
-use Rattle.places.specs.Places.{IsPlace}
+use Rattle.typed_contexts.specs.Contexts.{depth_of}
+use Rattle.typed_contexts.specs.Places.{IsPlace}
 use Rattle.typed_nodes.specs.declared.types.Typed.{Typed}
 use Rattle.typed_nodes.specs.declared.types.TypeAt.{TypeAt}
 use Rattle.typed_nodes.specs.Typed.{Says, IsTypeAt, IsTyped}
 use Rattle.typing_steps.specs.declared.state.Root.{Root}
 use Rattle.typing_steps.specs.declared.state.CheckState.{CheckState}
 use Rattle.typing_steps.specs.declared.state.InScope.{InScope}
-use Rattle.numbered.specs.declared.numbered.Numbered.{Numbered}
+use Rattle.numbered_scope.specs.declared.numbered.Numbered.{Numbered}
 use Rattle.typing_tasks.specs.declared.tasks.Task.{Task}
 use Rattle.typing_tasks.specs.declared.tasks.Tasks.{Tasks}
 use Rattle.typing_tasks.specs.declared.tasks.Next.{Next}

@@ -4,16 +4,16 @@ ghost use Rattle.std.specs.Prelude.{◌≡◌, IfOk, IfSome, Some};
 ghost use Rattle.trees.specs.Judgements.{Context};
 ghost use Rattle.trees.specs.Things.{ATree};
 ghost use Rattle.form_rows.specs.Formulas.{formula_tree};
-ghost use Rattle.places.specs.Places.{IsPlace};
+ghost use Rattle.typed_contexts.specs.Places.{IsPlace};
 ghost use Rattle.book.specs.Shown.{Extends, book_means};
 ghost use Rattle.typing_steps.specs.Steps.{IsFormulaRow};
 
 use book::Book;
 use codes::Formula;
-use places::Places;
 use rows::Maker;
 use std::alloc::AllocError;
 use trees::Op;
+use typed_contexts::Places;
 
 /// The row of a formula. None where a variable that it names is no name of the place.
 pub(crate) fn formula_row(

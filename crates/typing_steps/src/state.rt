@@ -18,9 +18,9 @@ ghost use Rattle.typing_tasks.specs.Tasks.{before_last};
 ghost use Rattle.typing_steps.specs.Steps.{IsInferred, IsState};
 
 use book::{Book, NodeId};
-use numbered::{ByNumber, Numbered};
-use places::Places;
+use numbered_scope::{ByNumber, Numbered};
 use std::alloc::{AllocError, Global};
+use typed_contexts::Places;
 use typed_nodes::{TypeAt, Typed, numbers_type, universe_type};
 
 /// The nodes of a definition: its type, and its body.

@@ -1,6 +1,6 @@
 use Rattle.std.proofs.Common.{◌+◌, ◌∷◌, refl, sym, ap, subst, ◌∙◌, drop}
 use Rattle.std.proofs.lemmas.List.{drop_all, drop_more}
-use Rattle.places.proofs.GrowthLaws.{further}
+use Rattle.typed_contexts.proofs.GrowthLaws.{further}
 use Rattle.bidirect.specs.Checked.{Checks}
 use Rattle.bidirect.proofs.CheckedLaws.{none_checked, one_checked, one_refused, all_checked}
 use Rattle.bidirect.proofs.checker.check_definitions.Goals as goal

@@ -1,5 +1,5 @@
 use Rattle.std.proofs.Common.{subst}
-use Rattle.places.proofs.GrowthLaws.{further}
+use Rattle.typed_contexts.proofs.GrowthLaws.{further}
 use Rattle.typing_steps.specs.Steps.{Steps}
 use Rattle.bidirect.proofs.LoopLaws.{begun, may_step, next_doing, weighs_less, all_refused, all_done, none_left}
 use Rattle.bidirect.proofs.checker.run.Goals as goal

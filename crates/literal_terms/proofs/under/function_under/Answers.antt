@@ -9,7 +9,7 @@ use Rattle.conditions.specs.Sides.{SideHolds}
 use Rattle.recipes.specs.Derivations.{StatesAt}
 use Rattle.book.specs.Contents.{Contents}
 use Rattle.book.specs.declared.kernel.NodeId.{NodeId}
-use Rattle.openings.specs.Statements.{open_lam, open_lam_statement}
+use Rattle.inversion_rules.specs.Statements.{open_lam, open_lam_statement}
 use Rattle.typed_nodes.specs.Calls.{MayCall}
 use Rattle.typed_nodes.specs.Typed.{Says}
 use Rattle.typed_nodes.proofs.StandLaws.{may_call, given}

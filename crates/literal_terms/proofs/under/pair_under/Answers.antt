@@ -10,7 +10,7 @@ use Rattle.rules.specs.Table.{at}
 use Rattle.recipes.specs.Derivations.{StatesAt}
 use Rattle.book.specs.Contents.{Contents}
 use Rattle.book.specs.declared.kernel.NodeId.{NodeId}
-use Rattle.openings.specs.Statements.{open_pair, open_pair_statement}
+use Rattle.inversion_rules.specs.Statements.{open_pair, open_pair_statement}
 use Rattle.typed_nodes.specs.Calls.{MayCall}
 use Rattle.typed_nodes.specs.Typed.{Says}
 use Rattle.typed_nodes.proofs.StandLaws.{may_call}

@@ -1,5 +1,5 @@
 use Rattle.std.proofs.Common.{◌≡◌, Some, rules, subst}
-use Rattle.edge.specs.Files.{HoldsAt}
+use Rattle.host_io.specs.Files.{HoldsAt}
 use Rattle.module_texts.specs.Texts.{path_of}
 use Rattle.loading.proofs.TooLong.{too_long}
 use Rattle.loading.proofs.text.read_text.Goals as goal

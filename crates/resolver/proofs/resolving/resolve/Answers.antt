@@ -1,6 +1,6 @@
 use Rattle.std.proofs.Common.{ap, sym, ◌∙◌}
 use Rattle.resolver.proofs.Wholes.{codes_hold, codes_refused}
-use Rattle.readings.proofs.Shaping.{block_spelt}
+use Rattle.resolved_forms.proofs.Shaping.{block_spelt}
 use Rattle.resolver.proofs.resolving.resolve.Goals as goal
 
 pub returns-in-None-clause-ok : goal.returns-in-None-clause-ok

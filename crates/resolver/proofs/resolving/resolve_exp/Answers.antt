@@ -1,5 +1,5 @@
 use Rattle.std.proofs.Common.{ap, sym, ◌∙◌}
-use Rattle.readings.proofs.Shaping.{term_among}
+use Rattle.resolved_forms.proofs.Shaping.{term_among}
 use Rattle.resolver.proofs.Wholes.{exp_holds, exp_refused}
 use Rattle.resolver.proofs.resolving.resolve_exp.Goals as goal
 

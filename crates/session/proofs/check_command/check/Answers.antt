@@ -1,5 +1,5 @@
 use Rattle.std.proofs.Common.{◌≡◌, ◌<◌, [], ap, subst, length, refl, Some}
-use Rattle.edge.specs.Seen.{SeenFiles, seen_files}
+use Rattle.host_io.specs.Seen.{SeenFiles, seen_files}
 use Rattle.direct.specs.Direct.{other_place}
 use Rattle.session.specs.Loaded.{IsProgram, IsRead, texts_of}
 use Rattle.session.specs.Checks.{IsChecked, IsDerived, Stores}

@@ -1,7 +1,7 @@
 use Rattle.std.proofs.Common.{◌≡◌, ◌<◌, ◌∙◌, ap, subst, length, map, slice_get, Some, inl, inr}
 use Rattle.std.specs.Option.{option_map}
 use Rattle.std.proofs.lemmas.List.{length-map}
-use Rattle.edge.specs.Seen.{seen_files}
+use Rattle.host_io.specs.Seen.{seen_files}
 use Rattle.module_texts.specs.Texts.{path_of, text_of}
 use Rattle.loading.specs.Texts.{CountsAfter}
 use Rattle.linking.specs.Modules.{RefusedFirst}

@@ -1,10 +1,10 @@
 use Rattle.std.proofs.Common.{◌≡◌, ◌++◌, ◌∙◌, ap, sym, subst, List, ℕ, Option, Some, None, Bor}
 use Rattle.std.specs.Prelude.{IfOk}
 use Rattle.std.specs.Option.{option_map}
-use Rattle.edge.specs.Counts.{counted_fetch}
-use Rattle.edge.specs.Files.{HoldsAt}
-use Rattle.edge.specs.declared.files.Fetched.TheVariants as fetched
-use Rattle.edge.specs.Seen.{seen_files}
+use Rattle.host_io.specs.Counts.{counted_fetch}
+use Rattle.host_io.specs.Files.{HoldsAt}
+use Rattle.host_io.specs.declared.files.Fetched.TheVariants as fetched
+use Rattle.host_io.specs.Seen.{seen_files}
 use Rattle.session.specs.declared.outcome.Outcome.TheVariants as outcome
 use Rattle.session.specs.Answers.{IsFound}
 use Rattle.session.specs.Loaded.{IsProgram}

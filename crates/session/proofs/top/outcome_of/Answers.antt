@@ -1,6 +1,6 @@
 use Rattle.std.proofs.Common.{◌≡◌, ◌∙◌, refl, ap, sym, subst, Some, Option}
 use Rattle.std.specs.Option.{option_map}
-use Rattle.edge.specs.Seen.{seen_files}
+use Rattle.host_io.specs.Seen.{seen_files}
 use Rattle.session.specs.Answers.{MayAnswer}
 use Rattle.session.specs.Words.{Command, Check, command_read}
 use Rattle.session.specs.declared.words.Command.{Command as ReadCommand}

@@ -1,5 +1,5 @@
 use Rattle.std.proofs.Common.{◌≡◌, refl}
-use Rattle.edge.specs.Seen.{seen_files}
+use Rattle.host_io.specs.Seen.{seen_files}
 use Rattle.session.specs.Words.{command, texts}
 use Rattle.session.specs.declared.outcome.Status.TheVariants as status
 use Rattle.session.proofs.RunLemmas.{stores, stores_less}

@@ -1,6 +1,6 @@
 use Rattle.std.proofs.Common.{◌<◌, ◌++◌, length, ◌∙◌, ap, sym}
-use Rattle.edge.specs.Counts.{one_more}
-use Rattle.edge.specs.Seen.{seen_sink}
+use Rattle.host_io.specs.Counts.{one_more}
+use Rattle.host_io.specs.Seen.{seen_sink}
 use Rattle.session.proofs.WriteLemmas.{went_on, stopped, some_left, cut_off}
 use Rattle.session.proofs.top.write_text.Goals as goal
 

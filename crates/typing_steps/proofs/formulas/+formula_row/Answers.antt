@@ -6,7 +6,7 @@ use Rattle.translation.specs.Terms.{min, max}
 use Rattle.conditions.specs.Sides.{is_formula}
 use Rattle.codes.specs.declared.formula.Formula.{Formula}
 use Rattle.form_rows.specs.Formulas.{formula_tree}
-use Rattle.places.proofs.GrowthLaws.{further}
+use Rattle.typed_contexts.proofs.GrowthLaws.{further}
 use Rattle.typing_steps.proofs.HeadLaws.{found_means, second_none, both_pass, both_mean}
 use Rattle.typing_steps.proofs.formulas.+formula_row.Goals as goal
 

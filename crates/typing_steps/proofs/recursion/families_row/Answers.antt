@@ -2,7 +2,7 @@ use Rattle.std.specs.Option.{IsSome}
 use Rattle.std.proofs.Common.{refl, sym, ◌∙◌, subst}
 use Rattle.translation.specs.Terms.{nat, universe}
 use Rattle.book.specs.Shown.{book_means}
-use Rattle.places.proofs.GrowthLaws.{further}
+use Rattle.typed_contexts.proofs.GrowthLaws.{further}
 use Rattle.typing_steps.proofs.LineLaws.{pi_row}
 use Rattle.typing_steps.proofs.recursion.families_row.Goals as goal
 

@@ -6,7 +6,7 @@ use Rattle.rules.specs.Table.{at, i0, i1}
 use Rattle.recipe_runner.proofs.BuildLaws.{some-is}
 use Rattle.typed_nodes.proofs.GrowthLaws.{says_later}
 use Rattle.typed_nodes.proofs.TypeLaws.{tree_here}
-use Rattle.places.proofs.GrowthLaws.{further}
+use Rattle.typed_contexts.proofs.GrowthLaws.{further}
 use Rattle.typing_tasks.proofs.types.end_rows.Goals as goal
 
 pub substitution_row-sub-requires : goal.substitution_row-sub-requires

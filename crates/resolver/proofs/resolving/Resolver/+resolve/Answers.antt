@@ -1,26 +1,26 @@
 use Rattle.std.proofs.Common.{◌∷◌, ◌++◌, map, codes, [], refl, sym, ap, ◌∙◌, subst, arith}
 use Rattle.codes.specs.declared.code.CodeDef.{out-CodeDef}
-use Rattle.readings.specs.Shaped.{IsLine, IsMotive}
-use Rattle.readings.specs.Spelt.{plain_of, words_of}
+use Rattle.resolved_forms.specs.Shaped.{IsLine, IsMotive}
+use Rattle.resolved_forms.specs.Spelt.{plain_of, words_of}
 use Rattle.translation.specs.Terms.{lam, pi, sig, universe}
 use Rattle.translation.specs.Forms.{all, project}
 use Rattle.translation.specs.Texts.{equations, word}
 use Rattle.scopes.specs.declared.names.Binding.TheVariants as binding
-use Rattle.readings.proofs.Spelling.{let_is, lambda_is, path_lambda_is, pi_is, sigma_is, arrow_is, named_is, applied_is, path_type_is, comp_is, fill_is, transport_is, glue_type_is, glue_term_is, unglue_is, project_is, universe_is, name_is, brackets_is}
-use Rattle.readings.proofs.FormLaws.{answered, text_is, answer_is, name_answered, plain_resolves, no_pair_resolves, let_resolves, under_resolves, path_lambda_resolves, arrow_resolves, application_resolves, path_type_resolves, comp_resolves, fill_resolves, transport_resolves, glue_type_resolves, glue_term_resolves, pair_resolves, unglue_resolves, project_resolves, universe_resolves, tuple_resolves}
-use Rattle.readings.proofs.Steps.{one_more, names_more, argument_element, at_element, exps_none, exps_more, elements_none, elements_more, sides_none, sides_more, line_sides_none, line_sides_more, pair_sides_none, pair_sides_more, binders_none, binders_more, block_none, block_more}
-use Rattle.readings.proofs.Slices.{none}
-use Rattle.readings.proofs.Openings.{applied_line, applied_motive, written_line, written_motive}
-use Rattle.readings.proofs.Applied.{leading_none, leading_more, suc_named, natrec_named}
+use Rattle.resolved_forms.proofs.Spelling.{let_is, lambda_is, path_lambda_is, pi_is, sigma_is, arrow_is, named_is, applied_is, path_type_is, comp_is, fill_is, transport_is, glue_type_is, glue_term_is, unglue_is, project_is, universe_is, name_is, brackets_is}
+use Rattle.resolved_forms.proofs.FormLaws.{answered, text_is, answer_is, name_answered, plain_resolves, no_pair_resolves, let_resolves, under_resolves, path_lambda_resolves, arrow_resolves, application_resolves, path_type_resolves, comp_resolves, fill_resolves, transport_resolves, glue_type_resolves, glue_term_resolves, pair_resolves, unglue_resolves, project_resolves, universe_resolves, tuple_resolves}
+use Rattle.resolved_forms.proofs.Steps.{one_more, names_more, argument_element, at_element, exps_none, exps_more, elements_none, elements_more, sides_none, sides_more, line_sides_none, line_sides_more, pair_sides_none, pair_sides_more, binders_none, binders_more, block_none, block_more}
+use Rattle.resolved_forms.proofs.Slices.{none}
+use Rattle.resolved_forms.proofs.Openings.{applied_line, applied_motive, written_line, written_motive}
+use Rattle.resolved_forms.proofs.Applied.{leading_none, leading_more, suc_named, natrec_named}
 use Rattle.resolver.proofs.Answered.{few_named, four_arguments, made_answers, defined_names, line_spelt, motive_spelt, opened_fits, other_named, pair_answer_is, pair_refused, pair_spelt}
 use Rattle.codes.specs.Shapes.{shape}
-use Rattle.readings.proofs.Definitions.{def_resolves}
-use Rattle.readings.specs.Spelt.{motive_of}
+use Rattle.resolved_forms.proofs.Definitions.{def_resolves}
+use Rattle.resolved_forms.specs.Spelt.{motive_of}
 use Rattle.scopes.specs.Finding.{find}
 use Rattle.scopes.specs.declared.names.Found.TheVariants as found
 use Rattle.translation.specs.declared.built_in.BuiltIn.TheVariants as built_in
-use Rattle.readings.proofs.Shaping.{made, under_names, line_at, named_term, universe_term, name_term, brackets_term, tuple_spelt, suc_applied, natrec_applied, argument_spelt, at_spelt, def_spelt, terms_spelt_none, terms_spelt_more, elements_spelt_none, elements_spelt_more, binders_spelt_none, binders_spelt_more, defs_spelt_none, defs_spelt_more, sides_spelt_none, sides_spelt_more, line_sides_spelt_none, line_sides_spelt_more, pair_sides_spelt_none, pair_sides_spelt_more, term_among, line_among, pair_among, element_among, terms_among, elements_among, sides_among, line_sides_among, pair_sides_among, names_bound, first_bound, equations_among, applied_term, plain_made, few_applied, other_applied}
-use Rattle.readings.proofs.TextTrees.{let_tree, lambda_tree, pi_tree, sigma_tree, path_lambda_tree, arrow_tree, apply_tree, path_type_tree, comp_tree, fill_tree, transport_tree, glue_type_tree, glue_term_tree, unglue_tree, project_tree}
+use Rattle.resolved_forms.proofs.Shaping.{made, under_names, line_at, named_term, universe_term, name_term, brackets_term, tuple_spelt, suc_applied, natrec_applied, argument_spelt, at_spelt, def_spelt, terms_spelt_none, terms_spelt_more, elements_spelt_none, elements_spelt_more, binders_spelt_none, binders_spelt_more, defs_spelt_none, defs_spelt_more, sides_spelt_none, sides_spelt_more, line_sides_spelt_none, line_sides_spelt_more, pair_sides_spelt_none, pair_sides_spelt_more, term_among, line_among, pair_among, element_among, terms_among, elements_among, sides_among, line_sides_among, pair_sides_among, names_bound, first_bound, equations_among, applied_term, plain_made, few_applied, other_applied}
+use Rattle.resolved_forms.proofs.TextTrees.{let_tree, lambda_tree, pi_tree, sigma_tree, path_lambda_tree, arrow_tree, apply_tree, path_type_tree, comp_tree, fill_tree, transport_tree, glue_type_tree, glue_term_tree, unglue_tree, project_tree}
 use Rattle.resolver.proofs.resolving.Resolver.+resolve.Goals as goal
 
 -- texts that bind names

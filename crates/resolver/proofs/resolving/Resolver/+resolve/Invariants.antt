@@ -1,9 +1,9 @@
 use Rattle.std.proofs.Common.{◌≡◌, take}
 use Rattle.scopes.specs.Steps.{Binds, Opens, Resolves}
 use Rattle.scopes.proofs.Blocks.{Seen}
-use Rattle.readings.specs.Spelt.{Applies, binders_of, block_of, elements_of, line_sides_of, pair_sides_of, term_sides_of, terms_of, written_in}
-use Rattle.readings.specs.Spelt.{code_binders, code_block, code_elements, code_line_sides, code_pair_sides, code_term_sides, code_terms, code_names, def_names}
-use Rattle.readings.specs.Shaped.{AreBinders, AreDefs, AreElements, AreLineSides, ArePairSides, AreSides, AreTerms}
+use Rattle.resolved_forms.specs.Spelt.{Applies, binders_of, block_of, elements_of, line_sides_of, pair_sides_of, term_sides_of, terms_of, written_in}
+use Rattle.resolved_forms.specs.Spelt.{code_binders, code_block, code_elements, code_line_sides, code_pair_sides, code_term_sides, code_terms, code_names, def_names}
+use Rattle.resolved_forms.specs.Shaped.{AreBinders, AreDefs, AreElements, AreLineSides, ArePairSides, AreSides, AreTerms}
 use Rattle.resolver.proofs.resolving.Resolver.+resolve.Given as goal
 
 abbrev pub invariant-binders-loop-tele : goal.invariant-binders-loop-tele

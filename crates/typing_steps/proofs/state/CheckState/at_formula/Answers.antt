@@ -3,7 +3,7 @@ use Rattle.trees.specs.Trees.{Tree}
 use Rattle.translation.specs.Terms.{papp}
 use Rattle.direct.specs.Literal.{at}
 use Rattle.form_rows.specs.Formulas.{formula_tree}
-use Rattle.places.proofs.GrowthLaws.{further}
+use Rattle.typed_contexts.proofs.GrowthLaws.{further}
 use Rattle.typing_tasks.specs.States.{State, place, with_inferred, inferring}
 use Rattle.typing_steps.specs.Steps.{IsFormulaRow}
 use Rattle.typing_steps.proofs.GrowthLaws.{state_later}

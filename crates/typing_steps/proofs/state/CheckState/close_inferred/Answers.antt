@@ -2,7 +2,7 @@ use Rattle.trees.specs.Judgements.{WithVar}
 use Rattle.trees.specs.Language.{Ty, Tm}
 use Rattle.translation.specs.Terms.{lam, pi}
 use Rattle.typed_nodes.proofs.GrowthLaws.{says_later}
-use Rattle.places.proofs.GrowthLaws.{further}
+use Rattle.typed_contexts.proofs.GrowthLaws.{further}
 use Rattle.typing_tasks.specs.States.{place, place_of, inferring, with_found, with_inferred, with_known}
 use Rattle.typing_steps.proofs.ClosingLaws.{head_taken}
 use Rattle.typing_steps.proofs.GrowthLaws.{state_later}

@@ -4,7 +4,7 @@ use Rattle.translation.specs.Terms.{pathp, plam, i0, i1}
 use Rattle.direct.specs.Literal.{at}
 use Rattle.typed_nodes.specs.Typed.{Says}
 use Rattle.typed_nodes.proofs.GrowthLaws.{says_later, type_at_later}
-use Rattle.places.proofs.GrowthLaws.{further}
+use Rattle.typed_contexts.proofs.GrowthLaws.{further}
 use Rattle.typing_tasks.specs.States.{State, place, place_of, with_known, with_found, finding}
 use Rattle.typing_steps.proofs.GrowthLaws.{state_later}
 use Rattle.typing_steps.proofs.PairLaws.{left_name, closed_same, closed_other}

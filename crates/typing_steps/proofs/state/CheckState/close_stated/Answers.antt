@@ -4,7 +4,7 @@ use Rattle.trees.specs.Language.{Ty, Tm}
 use Rattle.translation.specs.Terms.{lam, pi}
 use Rattle.typed_nodes.specs.Typed.{Says}
 use Rattle.typed_nodes.proofs.GrowthLaws.{says_later}
-use Rattle.places.proofs.GrowthLaws.{further}
+use Rattle.typed_contexts.proofs.GrowthLaws.{further}
 use Rattle.typing_tasks.specs.States.{place, place_of, finding, with_found, with_known}
 use Rattle.typing_steps.proofs.ClosingLaws.{two_taken}
 use Rattle.typing_steps.proofs.GrowthLaws.{state_later}

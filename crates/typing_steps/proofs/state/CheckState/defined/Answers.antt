@@ -7,8 +7,8 @@ use Rattle.direct.specs.Known.{scope_of}
 use Rattle.typed_nodes.specs.declared.types.Typed.{Typed}
 use Rattle.typed_nodes.specs.Typed.{IsTyped}
 use Rattle.typed_nodes.proofs.GrowthLaws.{says_later}
-use Rattle.places.specs.Contexts.{depth_of, at_depth}
-use Rattle.places.proofs.GrowthLaws.{further, place_later}
+use Rattle.typed_contexts.specs.Contexts.{depth_of, at_depth}
+use Rattle.typed_contexts.proofs.GrowthLaws.{further, place_later}
 use Rattle.typing_tasks.specs.States.{place, inferring}
 use Rattle.typing_steps.proofs.GrowthLaws.{state_later}
 use Rattle.typing_steps.proofs.KnownLaws.{found, not_found}

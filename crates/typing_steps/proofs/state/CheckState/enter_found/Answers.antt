@@ -1,4 +1,4 @@
-use Rattle.places.proofs.GrowthLaws.{further}
+use Rattle.typed_contexts.proofs.GrowthLaws.{further}
 use Rattle.typing_tasks.specs.Outcomes.{formed}
 use Rattle.typing_tasks.specs.States.{place}
 use Rattle.typing_steps.proofs.GrowthLaws.{state_later}

@@ -1,6 +1,6 @@
 use Rattle.translation.specs.Terms.{nat}
 use Rattle.direct.specs.Known.{Variable}
-use Rattle.places.proofs.GrowthLaws.{further}
+use Rattle.typed_contexts.proofs.GrowthLaws.{further}
 use Rattle.typing_tasks.specs.States.{place, under}
 use Rattle.typing_steps.proofs.GrowthLaws.{state_later}
 use Rattle.typing_steps.proofs.state.CheckState.enter_number.Goals as goal

@@ -3,7 +3,7 @@ use Rattle.trees.specs.Judgements.{WithVar}
 use Rattle.trees.specs.Language.{Ty}
 use Rattle.translation.specs.Terms.{nat, universe, pi, app, lifted, innermost}
 use Rattle.typed_nodes.proofs.GrowthLaws.{type_at_later}
-use Rattle.places.proofs.GrowthLaws.{further}
+use Rattle.typed_contexts.proofs.GrowthLaws.{further}
 use Rattle.typing_tasks.specs.States.{place, finding, with_inferred}
 use Rattle.typing_steps.proofs.GrowthLaws.{state_later}
 use Rattle.typing_steps.proofs.LineLaws.{same_as, compared, of_type}

@@ -1,5 +1,5 @@
 use Rattle.std.proofs.Common.{◌-◌, take, subst, ap, sym, ◌∙◌}
-use Rattle.places.specs.Places.{IsPlace}
+use Rattle.typed_contexts.specs.Places.{IsPlace}
 use Rattle.typing_steps.specs.Steps.{AreInScope}
 use Rattle.typing_steps.proofs.StateLaws.{scope_cut, place_forgetting}
 use Rattle.typing_steps.proofs.state.CheckState.forget.Goals as goal

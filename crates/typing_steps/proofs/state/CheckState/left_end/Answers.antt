@@ -6,7 +6,7 @@ use Rattle.direct.specs.Literal.{at}
 use Rattle.typed_nodes.specs.declared.types.TypeAt.{TypeAt}
 use Rattle.typed_nodes.specs.Typed.{IsTypeAt}
 use Rattle.typed_nodes.proofs.GrowthLaws.{says_later}
-use Rattle.places.proofs.GrowthLaws.{further}
+use Rattle.typed_contexts.proofs.GrowthLaws.{further}
 use Rattle.typing_tasks.specs.States.{place}
 use Rattle.typing_steps.proofs.GrowthLaws.{state_later}
 use Rattle.typing_steps.proofs.Planning.{leaves, run_one}

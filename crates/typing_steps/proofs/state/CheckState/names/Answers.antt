@@ -1,7 +1,7 @@
 use Rattle.typing_tasks.specs.States.{place}
 use Rattle.typing_steps.proofs.GrowthLaws.{state_later}
 use Rattle.typing_steps.proofs.PairLaws.{path_parts, names_none, names_not, names_planned}
-use Rattle.places.proofs.GrowthLaws.{further}
+use Rattle.typed_contexts.proofs.GrowthLaws.{further}
 use Rattle.typing_steps.proofs.state.CheckState.names.Goals as goal
 
 pub returns-then-count-eq0-clause-steps : goal.returns-then-count-eq0-clause-steps

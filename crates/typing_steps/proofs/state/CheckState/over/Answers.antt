@@ -1,7 +1,7 @@
 use Rattle.std.proofs.Common.{◌≡◌, ◌-◌, ◌∷◌, suc, refl, sym, ap, subst, ◌∙◌, arith}
 use Rattle.translation.specs.Terms.{lifted}
 use Rattle.direct.specs.Known.{Variable}
-use Rattle.places.proofs.GrowthLaws.{further}
+use Rattle.typed_contexts.proofs.GrowthLaws.{further}
 use Rattle.typing_tasks.specs.Outcomes.{formed}
 use Rattle.typing_tasks.specs.States.{place, finding, under as entered}
 use Rattle.typing_steps.specs.Steps.{IsState}

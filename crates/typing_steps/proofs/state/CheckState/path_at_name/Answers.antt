@@ -3,7 +3,7 @@ use Rattle.trees.specs.Judgements.{WithName}
 use Rattle.translation.specs.Terms.{universe, papp, lifted, innermost, pathp}
 use Rattle.direct.specs.Literal.{path_type_of}
 use Rattle.typed_nodes.proofs.GrowthLaws.{says_later, line_later}
-use Rattle.places.proofs.GrowthLaws.{further}
+use Rattle.typed_contexts.proofs.GrowthLaws.{further}
 use Rattle.typing_tasks.specs.States.{place, finding, with_inferred}
 use Rattle.typing_tasks.specs.Outcomes.{formed}
 use Rattle.typing_steps.proofs.GrowthLaws.{state_later}

@@ -4,7 +4,7 @@ use Rattle.trees.specs.Language.{Tm}
 use Rattle.translation.specs.Terms.{sig}
 use Rattle.typed_nodes.specs.Typed.{Says}
 use Rattle.typed_nodes.proofs.GrowthLaws.{says_later}
-use Rattle.places.proofs.GrowthLaws.{further}
+use Rattle.typed_contexts.proofs.GrowthLaws.{further}
 use Rattle.typing_tasks.specs.States.{place}
 use Rattle.typing_steps.proofs.PairLaws.{short, first_of, sigma_parts}
 use Rattle.typing_steps.proofs.HeadLaws.{takes_last, project_none, project_not, project_planned}

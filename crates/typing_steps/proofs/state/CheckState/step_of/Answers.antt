@@ -1,7 +1,7 @@
 use Rattle.std.proofs.Common.{[], ◌∷◌, refl, sym, subst, arith}
 use Rattle.direct.specs.Literal.{motive_step}
 use Rattle.typed_nodes.proofs.GrowthLaws.{says_later}
-use Rattle.places.proofs.GrowthLaws.{further}
+use Rattle.typed_contexts.proofs.GrowthLaws.{further}
 use Rattle.typing_tasks.specs.States.{place, with_found}
 use Rattle.typing_steps.specs.Steps.{IsState}
 use Rattle.typing_steps.proofs.GrowthLaws.{state_later}

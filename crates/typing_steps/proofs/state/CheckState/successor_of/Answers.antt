@@ -1,7 +1,7 @@
 use Rattle.trees.specs.Language.{Tm}
 use Rattle.translation.specs.Terms.{nat, suc}
 use Rattle.typed_nodes.proofs.GrowthLaws.{says_later}
-use Rattle.places.proofs.GrowthLaws.{further}
+use Rattle.typed_contexts.proofs.GrowthLaws.{further}
 use Rattle.typing_tasks.specs.States.{State, place, with_found, inferring}
 use Rattle.typing_steps.proofs.GrowthLaws.{state_later}
 use Rattle.typing_steps.proofs.state.CheckState.successor_of.Goals as goal

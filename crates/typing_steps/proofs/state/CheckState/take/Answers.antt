@@ -3,7 +3,7 @@ use Rattle.trees.specs.Judgements.{WithVar}
 use Rattle.trees.specs.Language.{Ty}
 use Rattle.direct.specs.Known.{Variable}
 use Rattle.typed_nodes.proofs.GrowthLaws.{type_at_later}
-use Rattle.places.proofs.GrowthLaws.{further}
+use Rattle.typed_contexts.proofs.GrowthLaws.{further}
 use Rattle.typing_tasks.specs.Outcomes.{binder_typed, typed}
 use Rattle.typing_tasks.specs.States.{place, with_found, under as entered}
 use Rattle.typing_steps.specs.Steps.{Takes}

@@ -4,7 +4,7 @@ use Rattle.trees.specs.Judgements.{WithVar}
 use Rattle.trees.specs.Language.{Ty}
 use Rattle.typed_nodes.specs.Typed.{IsTypeAt}
 use Rattle.typed_nodes.proofs.GrowthLaws.{says_later, family_later}
-use Rattle.places.proofs.GrowthLaws.{further}
+use Rattle.typed_contexts.proofs.GrowthLaws.{further}
 use Rattle.literal_types.specs.Literal.{IsLiteral}
 use Rattle.typing_tasks.specs.States.{place}
 use Rattle.typing_steps.proofs.GrowthLaws.{state_later}

@@ -1,5 +1,5 @@
 use Rattle.translation.specs.Terms.{universe}
-use Rattle.places.proofs.GrowthLaws.{further}
+use Rattle.typed_contexts.proofs.GrowthLaws.{further}
 use Rattle.typing_tasks.specs.States.{place}
 use Rattle.typing_steps.proofs.GrowthLaws.{state_later}
 use Rattle.typing_steps.proofs.state.CheckState.universe.Goals as goal

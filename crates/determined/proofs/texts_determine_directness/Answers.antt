@@ -1,5 +1,0 @@
-use Rattle.determined.proofs.ProgramLaws.{one_list, one_answer}
-use Rattle.determined.proofs.texts_determine_directness.Goals as goal
-
-pub returns : goal.returns
-returns c = record { codes = one_list; places = one_answer }

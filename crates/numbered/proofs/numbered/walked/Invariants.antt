@@ -1,6 +1,0 @@
-use Rattle.std.proofs.Common.{◌≡◌, take}
-use Rattle.numbered.specs.Newest.{newest}
-use Rattle.numbered.proofs.numbered.walked.Given as goal
-
-abbrev pub invariant-loop-item : goal.invariant-loop-item
-invariant-loop-item g l = l.found ≡ newest (take l.item-index l.items) l.number

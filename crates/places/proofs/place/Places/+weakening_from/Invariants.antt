@@ -1,4 +1,0 @@
-use Rattle.places.proofs.place.Places.+weakening_from.Given as goal
-
-abbrev pub decreases-weakening_from : goal.decreases-weakening_from
-decreases-weakening_from l = l.from
