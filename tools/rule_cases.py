@@ -9,12 +9,19 @@ alone. `named_cases.py` has cases of single rules. `judge.py` says what to expec
 """
 import pathlib
 
+import changes
 import judge
 import named_cases
 import rule_notation
 
 TESTS = pathlib.Path(__file__).resolve().parent.parent / "tests"
 FALSE_SIDES = (TESTS / "false_sides.txt").read_text().splitlines()
+
+
+def numbers(row):
+    """The numbers of rows that a row names."""
+    words = row.split(" ")
+    return [int(words[at]) for at in changes.named(row)]
 
 
 class File:
@@ -44,15 +51,27 @@ class File:
                 other = str(self.other(int(words[place])))
                 yield self, words[:place] + [other] + words[place + 1:]
 
+    def behind(self, row):
+        """The rows that a row stands on, in order, by their numbers."""
+        wanted = {0, *numbers(row)}
+        for at in range(max(wanted), 0, -1):
+            if at in wanted:
+                wanted.update(numbers(self.rows[at]))
+        return sorted(wanted)
+
     def after(self, words):
-        """The case of a row after the rows up to the last that it names, which are right."""
-        at = 1 + max(map(int, words[2:]), default=0)
+        """The case of a row after those that it stands on, which are right."""
+        row = " ".join(words)
         try:
-            judge.row(words, self.meanings[:at])
-            line = f"yes: {at + 1} rows, 0 roots\n"
+            judge.row(words, self.meanings)
+            is_right = True
         except (ValueError, KeyError, IndexError):
-            line = f"no: row {at}\n"
-        return case(self.rows[:at] + [" ".join(words)], line)
+            is_right = False
+        behind = self.behind(row)
+        place = {number: at for at, number in enumerate(behind)}
+        rows = [changes.renumbered(self.rows[number], place.get) for number in behind]
+        line = f"yes: {len(rows) + 1} rows, 0 roots\n" if is_right else f"no: row {len(rows)}\n"
+        return case(rows + [changes.renumbered(row, place.get)], line)
 
 
 def files():

@@ -2,36 +2,39 @@
 """Runs the tables of `tests` and the cases of `try_program.py`, and ends with one line that counts
 them all.
 
-    tools/run_cases.py                on builds without proofs, by `rt try`: some minutes
-    tools/run_cases.py COMMAND ..     after a command, as `rt ci`, whose last line is counted too, on
-                                      the programs that it has built
+    tools/run_cases.py             on builds without proofs, by `rt try`: some minutes
+    tools/run_cases.py --after     on the programs that the gate has built, as `.ci/run` does, which
+                                   hands on what the gate says; its last line is counted too
 
-It looks besides whether the edits of tools/edits still apply. The status is 0 only where the
-command's is and nothing failed.
+It looks besides whether the edits of tools/edits still apply. The status is 0 only where nothing
+failed.
 """
 import concurrent.futures
-import subprocess
+import re
 import sys
 
 import try_edits
 import try_program
 import try_tables
 
+ENDED = re.compile(r"rt ci ended with (\d+)\n")
 
-def ran(command):
-    """Runs a command, showing its lines: its status, and what the last line counts."""
+
+def gate(lines):
+    """The status of the gate and what its last line counts, once its lines are shown."""
     last = ""
-    with subprocess.Popen(command, stdout=subprocess.PIPE, text=True, errors="replace") as started:
-        for line in started.stdout:
-            print(line, end="", flush=True)
-            last = line
-    found = try_tables.COUNTS.fullmatch(last.strip())
-    return started.returncode, tuple(map(int, found.groups())) if found else (0, 1)
+    for line in lines:
+        ended = ENDED.fullmatch(line)
+        if ended:
+            return int(ended[1]), try_tables.last_count(last)
+        print(line, end="", flush=True)
+        last = line
+    return 1, (0, 1)
 
 
-def after(command):
-    """The status and the counts of a command, and, where it passes, of what it has built."""
-    status, count = ran(command)
+def proved():
+    """The status of the gate, and its counts and, where it passes, those of what it has built."""
+    status, count = gate(sys.stdin)
     if status:
         return status, [count]
     return 0, [count, *map(try_tables.proved, try_tables.TABLES), try_program.proved()]
@@ -45,12 +48,14 @@ def unproved():
         return [*tables, program.result()]
 
 
-def main(command):
-    status, counts = after(command) if command else (0, unproved())
+def main(words):
+    if words not in ([], ["--after"]):
+        sys.exit(__doc__.strip())
+    status, counts = proved() if words else (0, unproved())
     lost = try_edits.lost()
     print("".join(f"{line}\n" for line in lost), end="")
     passed, failed = sum(count[0] for count in counts), sum(count[1] for count in counts)
-    failed += len(lost)
+    failed = max(failed + len(lost), status > 0)
     print(f"{passed} passed, {failed} failed")
     sys.exit(status or failed > 0)
 

@@ -8,6 +8,8 @@ the disk. Each case is a file, the words with `{}` for its path, a line and a st
 that which the gate has built, where none is given; on it the cases of each rule run too
 (`rule_cases.py`). A build without proofs, by `rt try`, runs one in ten of these.
 """
+import concurrent.futures
+import os
 import pathlib
 import shutil
 import subprocess
@@ -15,8 +17,8 @@ import sys
 import tempfile
 
 import rule_cases
-import running
 
+LIMIT = 60  # seconds that one run may take
 ROOT = pathlib.Path(__file__).resolve().parent.parent
 EXAMPLES = ROOT / "examples"
 PROGRAM = ROOT / "crates" / "ctt" / "out" / "ctt"
@@ -53,30 +55,37 @@ def cases(one_in):
     return CASES | dict(examples()) | rule_cases.cases(one_in)
 
 
-def ends_so(program, case):
-    """Whether the program prints the line and ends with the status."""
-    text, words, line, status = case
+def ended(program, case):
+    """What the program prints, and the status that it ends with, if it does in time."""
+    text, words, *_ = case
     with tempfile.TemporaryDirectory() as path:
         folder = pathlib.Path(path, "examples")
         shutil.copytree(EXAMPLES, folder)
         (folder / "case").write_text(text)
         words = [word.replace("{}", "case") for word in words]
-        ran = running.Program(program, folder).ran([program, *words])
-    return (ran.text, ran.status) == (line, status)
+        try:
+            ran = subprocess.run([program, *words], cwd=folder, stdin=subprocess.DEVNULL,
+                                 stdout=subprocess.PIPE, stderr=subprocess.STDOUT, timeout=LIMIT)
+        except (OSError, subprocess.TimeoutExpired) as error:
+            return str(error), None
+    return ran.stdout.decode(errors="replace"), ran.returncode
 
 
 def proved(program=PROGRAM):
-    """How many cases pass and fail on a program."""
-    tried = cases(1)
-    return told([name for name, case in tried.items() if not ends_so(program, case)], tried)
+    """How many cases pass and fail on a program, with one at a time on each processor."""
+    tried, program = cases(1), pathlib.Path(program).resolve()
+    with concurrent.futures.ThreadPoolExecutor(os.cpu_count()) as pool:
+        found = dict(zip(tried, pool.map(lambda case: ended(program, case), tried.values())))
+    wrong = {name: found[name] for name, case in tried.items() if found[name] != case[2:]}
+    return told(wrong, tried)
 
 
 def told(wrong, tried):
-    """How many cases passed and failed, once that is printed."""
+    """How many cases passed and failed, once that is printed, with what was found of each."""
     passed, failed = len(tried) - len(wrong), len(wrong)
-    print(f"the program on words and files: {passed} passed, {failed} failed")
-    for name in wrong:
-        print(f"    {name}")
+    print(f"the program on words and files: {passed} passed, {failed} failed", flush=True)
+    for name, found in wrong.items():
+        print(f"    {name}: {found} in place of {tried[name][2:]}")
     return passed, failed
 
 
@@ -89,7 +98,7 @@ def lay_out(folder, tried):
         case.with_suffix(".stdout").write_text(line)
 
 
-def ended(said):
+def expected(said):
     """The cases that printed their line, with the status of each."""
     fields = [dict(part.split("=", 1) for part in line.split() if "=" in part)
               for line in said.splitlines() if line.startswith("case=")]
@@ -105,8 +114,9 @@ def unproved():
         lay_out(folder, tried)
         ran = subprocess.run(["rt", "try", "--cases", folder, *data], cwd=ROOT / "crates" / "ctt",
                              text=True, stdout=subprocess.PIPE, stderr=subprocess.STDOUT)
-    found = ended(ran.stdout)
-    return told([name for name, (*_, status) in tried.items() if found.get(name) != status], tried)
+    found = expected(ran.stdout)
+    return told({name: "another answer" for name, (*_, status) in tried.items()
+                 if found.get(name) != status}, tried)
 
 
 if __name__ == "__main__":

@@ -19,16 +19,23 @@ TABLES = {
     "file_cases": "files.txt",
     "grammar_cases": "grammar.txt",
     "resolver_cases": "resolver.txt",
+    "session_cases": "session.txt",
 }
 COUNTS = re.compile(r"^(\d+) passed, (\d+) failed$", re.M)
+LIMIT = 120  # seconds that one table may take
+
+
+def last_count(said):
+    """How many passed and failed by the last line of a text that says so. With none, one failed."""
+    found = COUNTS.findall(said)
+    return tuple(map(int, found[-1])) if found else (0, 1)
 
 
 def counted(crate, said):
     """How many cases passed and failed by what a program printed, which is shown where any did. A
     program that does not come to its end fails once."""
-    found = COUNTS.findall(said)
-    passed, failed = map(int, found[-1]) if found else (0, 1)
-    print(f"tests/{TABLES[crate]}: {passed} passed, {failed} failed")
+    passed, failed = last_count(said)
+    print(f"tests/{TABLES[crate]}: {passed} passed, {failed} failed", flush=True)
     if failed:
         print(said)
     return passed, failed
@@ -37,8 +44,11 @@ def counted(crate, said):
 def proved(crate):
     """The table of a crate, on the program that the gate has built."""
     with open(ROOT / "tests" / TABLES[crate], "rb") as table:
-        ran = subprocess.run([ROOT / "crates" / crate / "out" / crate], stdin=table,
-                             stdout=subprocess.PIPE, stderr=subprocess.STDOUT)
+        try:
+            ran = subprocess.run([ROOT / "crates" / crate / "out" / crate], stdin=table,
+                                 stdout=subprocess.PIPE, stderr=subprocess.STDOUT, timeout=LIMIT)
+        except (OSError, subprocess.TimeoutExpired) as error:
+            return counted(crate, f"{error}\n")
     return counted(crate, ran.stdout.decode(errors="replace"))
 
 

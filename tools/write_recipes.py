@@ -54,7 +54,7 @@ CRATES = {
         "fill_faces", "fill_lines", "contr_variable", "pres_numbers", "ext_variable",
         "ext_numbers", "fill_premises",
     ],
-    "behind_tests": ["glued"],
+    "behind_tests": ["glued", "compositions", "glued_composition"],
 }
 # Where several stand over the same, one list serves them all: a call then hands in one `Earlier`.
 EARLIER = {"pres": ["fill"], "ext": ["contr"]}

@@ -1,3 +1,4 @@
 pub mod Claims
+pub mod Compositions
 pub mod Glued
 pub mod Telescopes

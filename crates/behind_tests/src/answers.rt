@@ -1,20 +1,16 @@
 //! Questions, and whether their answers conclude what they should.
 
-ghost use Rattle.std.specs.Prelude.{false};
 ghost use Rattle.trees.specs.Trees.{Subst, Tree};
 ghost use Rattle.trees.specs.Judgements.{Context, Judgement};
 ghost use Rattle.trees.specs.Language.{Ctx, Sb, Tm, Ty};
 ghost use Rattle.book.specs.Shown.{Extends};
 ghost use Rattle.typed_nodes.specs.Typed.{Says};
-ghost use Rattle.presupposed.specs.Asked.{Equates, IsAt, IsFound, IsIn};
-ghost use Rattle.presupposed.specs.declared.memory.Question.{Question};
+ghost use Rattle.presupposed.specs.Asked.{Equates, IsAt, IsIn};
 ghost use Rattle.behind_tests.specs.Claims.{IsClaim};
 
 use book::{Book, NodeId};
 use compare::Comparison;
-use presupposed::{
-    Found, NoRightSides, anchor, context_of, far_of, home_of, left_of, right_of, type_of,
-};
+use presupposed::{anchor, context_of, far_of, home_of, left_of, right_of, type_of};
 use std::alloc::{AllocError, Global};
 use theory::Claim;
 
@@ -25,17 +21,6 @@ pub fn concludes(alloc: Global, book: &Book, node: NodeId, claim: Claim) -> Resu
     let mut comparison = Comparison::new(alloc);
     let found = book.conclusion(node);
     Ok(comparison.same_claim(book, found, claim)?)
-}
-
-/// Whether a node was found, and concludes the claim.
-fn is_found(alloc: Global, book: &Book, found: Found, claim: Claim) -> Result<bool, AllocError>
-    requires { (q : Question) × (I J : Judgement) × IsFound (λ rule. false) book.now q found I
-        × IsClaim book.now claim J }
-{
-    match found {
-        Found::Node(node) => Ok(concludes(alloc, book, node, claim)?),
-        Found::Wanting(_) => Ok(false),
-    }
 }
 
 /// Whether the context of a type, a term or an equation is this one.
@@ -78,8 +63,8 @@ pub fn type_is(alloc: Global, book: &mut Book, node: NodeId, ty: Claim) -> Resul
         × IsClaim book.old ty (Ty G A) }
     ensures { Extends book.old book.new }
 {
-    let found = type_of(alloc, book, &NoRightSides, node)?;
-    Ok(is_found(alloc, book, found, ty)?)
+    let found = type_of(alloc, book, node)?;
+    Ok(concludes(alloc, book, found, ty)?)
 }
 
 /// Whether the left side of an equation is this one.
@@ -93,8 +78,8 @@ pub fn left_is(
         × IsClaim book.old side left }
     ensures { Extends book.old book.new }
 {
-    let found = left_of(alloc, book, &NoRightSides, equation)?;
-    Ok(is_found(alloc, book, found, side)?)
+    let found = left_of(alloc, book, equation)?;
+    Ok(concludes(alloc, book, found, side)?)
 }
 
 /// Whether the right side of an equation is this one.
@@ -108,8 +93,8 @@ pub fn right_is(
         × IsClaim book.old side right }
     ensures { Extends book.old book.new }
 {
-    let found = right_of(alloc, book, &NoRightSides, equation)?;
-    Ok(is_found(alloc, book, found, side)?)
+    let found = right_of(alloc, book, equation)?;
+    Ok(concludes(alloc, book, found, side)?)
 }
 
 /// Whether a typing is the same when it is anchored at its type.
@@ -123,11 +108,7 @@ pub fn anchored_is(
         × IsClaim book.old claim (Tm G a A) }
     ensures { Extends book.old book.new }
 {
-    match type_of(alloc, book, &NoRightSides, typing)? {
-        Found::Node(ty) => {
-            let anchored = anchor(book, typing, ty)?;
-            Ok(concludes(alloc, book, anchored, claim)?)
-        }
-        Found::Wanting(_) => Ok(false),
-    }
+    let ty = type_of(alloc, book, typing)?;
+    let anchored = anchor(book, typing, ty)?;
+    Ok(concludes(alloc, book, anchored, claim)?)
 }

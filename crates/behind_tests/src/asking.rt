@@ -176,6 +176,23 @@ pub fn ask(
     }
 }
 
+/// The same of the node of this number, if there is one.
+///
+/// # Errors
+/// Only where memory runs out.
+pub fn ask_numbered(
+    alloc: Global,
+    book: &mut Book,
+    asked: Asked,
+    number: u64,
+) -> Result<Option<bool>, AllocError> {
+    if number < book.mark().nodes {
+        Ok(ask(alloc, book, asked, NodeId(number))?)
+    } else {
+        Ok(None)
+    }
+}
+
 /// Asks the same of every node of a book, but not of those that answer.
 ///
 /// # Errors

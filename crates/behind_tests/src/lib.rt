@@ -10,12 +10,14 @@
 
 mod answers;
 mod asking;
+mod compositions;
 mod forms;
 mod glued;
+mod glued_composition;
 mod runs;
 mod telescope;
 
-pub use asking::{Asked, Tally, ask, ask_every_node, every_node};
+pub use asking::{Asked, Tally, ask, ask_every_node, ask_numbered, every_node};
 pub use runs::{Whole, derive_whole};
 pub use telescope::{applied_to_all, function_of};
 

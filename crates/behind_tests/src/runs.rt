@@ -6,9 +6,12 @@ ghost use Rattle.book.specs.Contents.{Contents};
 ghost use Rattle.recipes.specs.Derivations.{Derives};
 ghost use Rattle.recipe_runner.specs.Running.{MayRun, most_made_by};
 ghost use Rattle.kan_tests.specs.Fillings.{earlier};
+ghost use Rattle.behind_tests.specs.Compositions.{compositions_statement, glued_composition_statement};
 ghost use Rattle.behind_tests.specs.Glued.{glued_statement};
 
+use crate::compositions::{COMPOSITIONS, COMPOSITIONS_GIVES};
 use crate::glued::{GLUED, GLUED_GIVES};
+use crate::glued_composition::{GLUED_COMPOSITION, GLUED_COMPOSITION_GIVES};
 use book::{Book, Few};
 use kan_calls::Kan;
 use kan_tests::{
@@ -21,8 +24,8 @@ use recipe_runner::run;
 use recipes::Row;
 use std::alloc::AllocError;
 
-/// A derivation: the first six use the Kan operations, the last one the rules of Glue, systems and
-/// numbers.
+/// A derivation: the first six use the Kan operations, `Glue` the rules of Glue, systems and
+/// numbers, and the last two the rules of composition that unfold.
 #[derive(Clone, Copy, Debug)]
 pub enum Whole {
     Faces,
@@ -32,11 +35,17 @@ pub enum Whole {
     Extension,
     Identity,
     Glue,
+    Compositions,
+    GluedComposition,
 }
 
-/// The table derives what it is for.
-fn glued_is_derived()
-    ensures { Derives earlier glued_statement GLUED.now GLUED_GIVES.now }
+/// The tables derive what they are for.
+fn tables_are_derived()
+    ensures glued { Derives earlier glued_statement GLUED.now GLUED_GIVES.now }
+    ensures compositions { Derives earlier compositions_statement
+        COMPOSITIONS.now COMPOSITIONS_GIVES.now }
+    ensures glued_composition { Derives earlier glued_composition_statement
+        GLUED_COMPOSITION.now GLUED_COMPOSITION_GIVES.now }
 {}
 
 /// The nodes that a recipe gives, by those of the Kan operations.
@@ -59,7 +68,7 @@ pub fn derive_whole(book: &mut Book, whole: Whole) -> Result<Few, AllocError> {
     preservation_is_derived();
     extension_is_derived();
     identity_is_equivalence();
-    glued_is_derived();
+    tables_are_derived();
     match whole {
         Whole::Faces => Ok(given(book, FILL_FACES, FILL_FACES_GIVES)?),
         Whole::Lines => Ok(given(book, FILL_LINES, FILL_LINES_GIVES)?),
@@ -68,5 +77,7 @@ pub fn derive_whole(book: &mut Book, whole: Whole) -> Result<Few, AllocError> {
         Whole::Extension => Ok(given(book, EXT_VARIABLE, EXT_VARIABLE_GIVES)?),
         Whole::Identity => Ok(given(book, EXT_NUMBERS, EXT_NUMBERS_GIVES)?),
         Whole::Glue => Ok(given(book, GLUED, GLUED_GIVES)?),
+        Whole::Compositions => Ok(given(book, COMPOSITIONS, COMPOSITIONS_GIVES)?),
+        Whole::GluedComposition => { Ok(given(book, GLUED_COMPOSITION, GLUED_COMPOSITION_GIVES)?) }
     }
 }

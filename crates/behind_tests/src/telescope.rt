@@ -12,7 +12,7 @@ ghost use Rattle.behind_tests.specs.Telescopes.{IsClosed, IsTypedClosed, IsUnder
 
 use book::{Book, NodeId};
 use literal_types::{Literal, literal};
-use presupposed::{Found, NoRightSides, type_of};
+use presupposed::type_of;
 use std::alloc::{AllocError, Global};
 use typed_nodes::{
     TypeAt, Typed, applied, empty, function, identity, numbers_type, small_type, type_row,
@@ -168,21 +168,19 @@ fn applied_to_both(
     }
 }
 
-/// A term at its type, where that is found.
-fn typed_of(alloc: Global, book: &mut Book, term: NodeId) -> Result<Option<Typed>, AllocError>
+/// A term at its type.
+fn typed_of(alloc: Global, book: &mut Book, term: NodeId) -> Result<Typed, AllocError>
     requires { IsClosed book.old term }
-    ensures extends { IfOk result (λ found. Extends book.old book.new) }
-    ensures typed { IfOk result (λ found. MatchOption found (Unit {0}) (IsTypedClosed book.new)) }
+    ensures extends { IfOk result (λ typed. Extends book.old book.new) }
+    ensures typed { IfOk result (IsTypedClosed book.new) }
 {
     let ctx = empty(book)?;
     let sub = identity(book, ctx)?;
-    match type_of(alloc, book, &NoRightSides, term)? {
-        Found::Node(ty) => Ok(Some(Typed {
-            term,
-            ty: TypeAt { ty, sub },
-        })),
-        Found::Wanting(_) => Ok(None),
-    }
+    let ty = type_of(alloc, book, term)?;
+    Ok(Typed {
+        term,
+        ty: TypeAt { ty, sub },
+    })
 }
 
 /// A function at the type of numbers and then at zero, so many times, where it is one of such
@@ -201,9 +199,7 @@ pub fn applied_to_all(
     let ctx = empty(book)?;
     let (numbers, _) = numbers_type(book, ctx)?;
     let number = zero(book, ctx)?;
-    let Some(mut typed) = typed_of(alloc, book, function)? else {
-        return Ok(None);
-    };
+    let mut typed = typed_of(alloc, book, function)?;
     for _ in 0..pairs {
         let Some(next) = applied_to_both(alloc, book, typed, numbers, number)? else {
             return Ok(None);

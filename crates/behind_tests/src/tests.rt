@@ -42,6 +42,8 @@ fn what_stands_behind_every_node_is_found(rt: HostRuntime) -> Result<(), Fail> {
         Whole::Extension,
         Whole::Identity,
         Whole::Glue,
+        Whole::Compositions,
+        Whole::GluedComposition,
     ];
     for whole in wholes {
         let mut book = Book::new(rt.alloc())?;

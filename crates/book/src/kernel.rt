@@ -1,9 +1,9 @@
 //! The book, in which every node is right.
 
 use crate::few::RuleUse;
-use crate::node_words::{NodeCells, claim_of, node_words, read_node};
+use crate::node_words::{MOST_NODE_WORDS, NodeCells, claim_of, read_node, spell_node};
 use compare::Comparison;
-use interned::InternedRows;
+use interned::{InternedRows, Words};
 use region::{Region, RowId};
 use rows::{Row, TermId};
 use rules::concluded;
@@ -30,9 +30,6 @@ pub struct NodeRow<'a> {
     pub parts: &'a [u64],
     pub premises: &'a [u64],
 }
-
-/// The most words of a node.
-const MOST_NODE_WORDS: u64 = 32;
 
 /// Rows and nodes, named by their numbers from 0. Each node is an instance of its rule over earlier
 /// nodes. Equal rows are kept once, and equal nodes too. What rows mean and nodes conclude stays,
@@ -122,7 +119,9 @@ impl Book {
     {
         let parts = step.parts.as_slice();
         let claim = concluded(&mut self.rows, step.rule, parts)?;
-        let words = node_words(step.rule, claim, parts, step.premises.as_slice());
+        let mut words = Words::new();
+        let premises = step.premises.as_slice();
+        spell_node(&mut words, step.rule, claim, parts, premises);
         let RowId(at) = self.nodes.intern(words.as_slice())?;
         Ok(NodeId(at))
     }
@@ -201,7 +200,7 @@ impl Book {
         ensures extends { Extends self.old self.new }
         ensures same { Extends self.new self.old }
     {
-        let Some(words) = rows.checked_mul(MOST_NODE_WORDS) else {
+        let Some(words) = rows.checked_mul(MOST_NODE_WORDS as u64) else {
             return Err(AllocError);
         };
         self.rows.reserve(rows)?;

@@ -1,6 +1,6 @@
 //! How nodes are coded: the rule, the form of the conclusion, its rows, the parts and the premises.
 
-ghost use Rattle.std.specs.Prelude.{◌≡◌, ◌≤◌, ◌+◌, Some, length};
+ghost use Rattle.std.specs.Prelude.{◌≡◌, ◌≤◌, ◌+◌, [], Some, length};
 ghost use Rattle.theory.specs.RuleNames.{kinds_of};
 ghost use Rattle.trees.specs.Claims.{form_of, rows_of};
 ghost use Rattle.book.specs.Nodes.{node_coded, places_of};
@@ -8,6 +8,9 @@ ghost use Rattle.book.specs.Coded.{IsWhole, node_from, node_shown};
 
 use interned::Words;
 use theory::{Claim, JudgementForm, RuleName, count_parts, numbered_rule, rule_number};
+
+/// The most words of a node.
+pub const MOST_NODE_WORDS: usize = 32;
 
 /// The forms of judgements, each at the place that its word says.
 static FORMS: [JudgementForm; 6] = [
@@ -29,19 +32,24 @@ pub struct NodeCells<'a> {
     pub premises: &'a [u64],
 }
 
-/// The words of a node.
-pub fn node_words(rule: RuleName, claim: Claim, parts: &[u64], premises: &[u64]) -> Words
+/// Writes the words of a node. They are not handed back, since moving them costs as much.
+pub fn spell_node(
+    words: &mut Words<MOST_NODE_WORDS>,
+    rule: RuleName,
+    claim: Claim,
+    parts: &[u64],
+    premises: &[u64],
+)
+    requires empty { words.old ≡ [] }
     requires count { length parts.now ≡ length (kinds_of rule) }
     requires few { length parts.now + length premises.now ≤ 26 }
-    ensures { node_coded result ≡ Some (node_from rule claim parts.now premises.now) }
+    ensures { node_coded words.new ≡ Some (node_from rule claim parts.now premises.now) }
 {
     let rows = claim.rows();
-    let mut words = Words::new();
     words.append(&[rule_number(rule), claim.form() as u64]);
     words.append(rows.as_slice());
     words.append(parts);
     words.append(premises);
-    words
 }
 
 /// How many rows a judgement of a form names.

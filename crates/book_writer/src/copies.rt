@@ -11,7 +11,7 @@ ghost use Rattle.book_writer.specs.Means.{ConclusionsKept, MayAdd};
 ghost use Rattle.book_writer.specs.Needed.{among, RowsStand, NodesStand};
 ghost use Rattle.book_writer.specs.Served.{IsMarked};
 
-use crate::lines::Lines;
+use crate::lines::{Lines, MOST_NAMES};
 use crate::needed::Needed;
 use book::{Book, NodeId, NodeRow};
 use interned::Words;
@@ -19,7 +19,7 @@ use rows::{CtxRow, Maker, Row, SubRow, TermRow};
 use std::alloc::AllocError;
 
 /// The places of these rows.
-pub fn placed(places: &[u64], rows: &[u64]) -> Words
+pub fn placed(places: &[u64], rows: &[u64]) -> Words<MOST_NAMES>
     requires few { length rows.now ≤ 32 }
     requires there { All (λ k. k < length places.now) rows.now }
     ensures { result ≡ map (λ k. slice_index_or places.now k 0) rows.now }

@@ -12,6 +12,9 @@ use std::alloc::{AllocError, Global};
 use std::marker::Model;
 use theory::{Op, RuleName, count_parts, count_premises, kid_count};
 
+/// The most rows and nodes that a row of a book or a node names.
+pub const MOST_NAMES: usize = 32;
+
 /// What a row of a file is. The rows that it names stand beside it.
 #[derive(Clone, Copy, Debug)]
 pub enum RowHead {

@@ -13,7 +13,7 @@ ghost use Rattle.book_writer.specs.Means.{meanings_in, lines_mean, lines_conclud
 ghost use Rattle.book_writer.specs.Means.{ConclusionsKept};
 ghost use Rattle.book_writer.specs.Pushed.{ArePushed, IsSubLine};
 
-use crate::lines::{Lines, RowHead};
+use crate::lines::{Lines, MOST_NAMES, RowHead};
 use interned::Words;
 use rows::{Maker, Rows};
 use std::alloc::AllocError;
@@ -67,7 +67,7 @@ impl Lines {
             IfOk result (λ at. lines_conclude self.new at ≡ Some J) }
     {
         let _ = &self.alloc;
-        let mut names = Words::new();
+        let mut names: Words<MOST_NAMES> = Words::new();
         names.append(parts);
         names.append(premises);
         Ok(self.add(RowHead::Node(rule), names.as_slice())?)

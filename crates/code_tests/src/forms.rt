@@ -1,7 +1,7 @@
 //! Codes by their forms.
 //!
-//! Each is made in a function of its own, whose result nothing is known of: in one function the proof
-//! of each step would carry what is known of all the codes before it.
+//! Each is made in a function of its own, whose result nothing is known of: in one function the
+//! proof of each step would carry what is known of all the codes before it.
 
 use crate::words::{code_is, formula_is};
 use codes::{Binder, Code, Element, Formula, Opened};

@@ -8,8 +8,8 @@ use std::alloc::AllocError;
 use std::process::Abort;
 use std::test::Fail;
 
-/// The word of a code: `#1` is a variable by its index, `@4` a definition by its number, and `<2>` a
-/// path lambda by how many names it binds.
+/// The word of a code: `#1` is a variable by its index, `@4` a definition by its number, and `<2>`
+/// a path lambda by how many names it binds.
 fn code_word(code: &Code) -> &'static str {
     match code {
         Code::Bound { index: 1, .. } => "#1",

@@ -15,11 +15,14 @@ use crate::heads::{Head, head_word, row_head};
 use crate::words::Words;
 use rows::{CtxId, CtxRow, HeldSize, Row, SubId, SubRow, TermId, TermRow};
 
+/// The most words of a row of a tree, a substitution or a context.
+pub const MOST_WORDS: usize = 8;
+
 /// 2^64: what the first word of a count of trees counts.
 const HIGH: u128 = 1 << 64;
 
 /// A head and what follows it.
-fn headed(head: Head, cells: &[u64]) -> Words
+fn headed(head: Head, cells: &[u64]) -> Words<MOST_WORDS>
     requires { length cells.now ≤ 7 }
     ensures headed { IsHeaded head cells.now result }
     ensures few { length result ≤ 8 }
@@ -31,7 +34,7 @@ fn headed(head: Head, cells: &[u64]) -> Words
 }
 
 /// The words of a row of a tree.
-pub fn term_words(row: &TermRow<'_>) -> Words
+pub fn term_words(row: &TermRow<'_>) -> Words<MOST_WORDS>
     requires { IsTermFit row.now }
     ensures meaning { (f : Meanings) → thing_coded f result ≡ term_meaning f row.now }
     ensures few { length result ≤ 8 }
@@ -44,7 +47,7 @@ pub fn term_words(row: &TermRow<'_>) -> Words
 }
 
 /// The words of a row of a substitution of this size.
-pub fn sub_words(row: &SubRow, size: HeldSize) -> Words
+pub fn sub_words(row: &SubRow, size: HeldSize) -> Words<MOST_WORDS>
     requires { IsShiftFit row.now }
     ensures meaning { (f : Meanings) → thing_coded f result ≡ sub_meaning f row.now }
     ensures pushed { pushed_coded result ≡ size.pushed }
@@ -64,7 +67,7 @@ pub fn sub_words(row: &SubRow, size: HeldSize) -> Words
 }
 
 /// The words of a row of a context.
-pub fn ctx_words(row: &CtxRow) -> Words
+pub fn ctx_words(row: &CtxRow) -> Words<MOST_WORDS>
     ensures meaning { (f : Meanings) → thing_coded f result ≡ ctx_meaning f row.now }
     ensures few { length result ≤ 8 }
 {

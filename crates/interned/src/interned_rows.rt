@@ -2,7 +2,7 @@
 
 ghost use Rattle.interned.specs.Coded.{AreCoded};
 
-use crate::coding::{coded_row, ctx_words, sub_size, sub_words, term_words};
+use crate::coding::{MOST_WORDS, coded_row, ctx_words, sub_size, sub_words, term_words};
 use crate::words::Words;
 use region::{Mark, Region, RowId};
 use rows::{
@@ -11,9 +11,6 @@ use rows::{
 use std::alloc::{AllocError, Global};
 use trees::Op;
 use weakenings::{passed, shift_of_both, undone};
-
-/// The most words of a row of a tree, a substitution or a context.
-const MOST_ROW_WORDS: u64 = 8;
 
 /// Rows named by their numbers from 0, equal rows by one number. Contracts see the list of what
 /// they mean. After out of memory each row means what it did.
@@ -76,7 +73,7 @@ impl InternedRows {
         ensures ok { OnOk result (rows ≤ rows_spare self.new) }
         ensures kept { rows_spare self.old ≤ rows_spare self.new }
     {
-        match rows.checked_mul(MOST_ROW_WORDS) {
+        match rows.checked_mul(MOST_WORDS as u64) {
             Some(words) => Ok(self.region.reserve(rows, words)?),
             None => Err(AllocError),
         }
@@ -92,7 +89,7 @@ impl InternedRows {
     }
 
     /// The row of these words, which may be a new one.
-    fn add(&mut self, words: Words) -> Result<u64, AllocError>
+    fn add(&mut self, words: Words<MOST_WORDS>) -> Result<u64, AllocError>
         requires few { length words ≤ 8 }
         requires means { IsSome (thing_coded (rows_mean self.old) words) }
         requires sized { let f = rows_mean self.old in

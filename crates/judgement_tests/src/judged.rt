@@ -48,7 +48,8 @@ const ROWS: [Row; 20] = [
     (
         "N : U = nat\nM : U = N\nL (x y : N) : U = N",
         "[] >> U\n[] >> nat : U\n[] >> U\n[] >> nat : U\n\
-         [] >> (pi nat (pi nat[1] U))\n[] >> (lam nat (lam nat[1] nat[2])) : (pi nat (pi nat[1] U))\n",
+         [] >> (pi nat (pi nat[1] U))\n\
+         [] >> (lam nat (lam nat[1] nat[2])) : (pi nat (pi nat[1] U))\n",
     ),
     // a local definition is stated first, in its context, and is used two variables further in
     (

@@ -17,6 +17,3 @@ pub use laws::laws_of_loading;
 pub use module_texts::ModuleText;
 pub use modules::load;
 pub use text::LoadFault;
-
-#[cfg(test)]
-mod tests;

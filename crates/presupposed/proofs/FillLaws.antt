@@ -42,7 +42,7 @@ use Rattle.presupposed.specs.declared.memory.Question.{Question}
 use Rattle.presupposed.specs.Asked.{Stands}
 use Rattle.presupposed.specs.Tasks.{Awaits, Fills, place_of}
 use Rattle.presupposed.specs.Parts.{IsInSight}
-use Rattle.presupposed.proofs.RuleLaws.{AllShort, IsShort, few_parts, in_sight, parts_fit}
+use Rattle.presupposed.proofs.RuleLaws.{AllShort, IsShort, few_parts, few_wants, in_sight, parts_fit}
 use Rattle.presupposed.proofs.SourceLaws.{all_sources, next_source, sought_at, sought_values}
 
 some-same : {A : Type 0} (x y : A) → ◌≡◌ {A = Option A} (Some x) (Some y) → x ≡ y
@@ -236,6 +236,16 @@ parts_few b rule parts premises J u =
     let count = sym (length-map u.things kind_of) ∙ ap length kinds in
     let few = few_parts rule in
     omega (arith, same, count, few)
+
+-- and few premises
+pub premises_few : (b : Contents) (rule : RuleName) (parts premises : List ℕ) (J : Judgement) → IsUse (book_means b) (book_concludes b) rule parts premises J → length premises ≤ 16
+premises_few b rule parts premises J u =
+    let pattern = pattern_of rule in
+    let same = meanings-length (book_concludes b) premises u.judgements u.premises_are in
+    let wants = ap length (wants_pattern rule u.things u.judgements J u.instance) in
+    let count = length-map pattern.wants (judgement_of (parts_of u.things)) in
+    let few = few_wants rule in
+    omega (arith, same, wants, count, few)
 
 -- the parts and premises of the node
 pub made_parts : (b : Contents) (node : NodeId) (made : Node) (rule : RuleName) (parts premises : List ℕ) → book_nodes b node.0 ≡ Some made → IsMadeBy rule parts premises (book_nodes b node.0) → (parts ≡ made.parts) × (premises ≡ made.premises)

@@ -1,5 +1,5 @@
 -- Labels that are asked on the way, and what stands behind judgements with them.
-use Rattle.std.proofs.Common.{◌≡◌, ◌||◌, ◌&&◌, Bool, true, false, refl, sym, ◌∙◌, ap, ap₂, Some}
+use Rattle.std.proofs.Common.{◌≡◌, ◌||◌, ◌&&◌, Bool, true, false, refl, sym, ap, ap₂, Some}
 use Rattle.trees.specs.Trees.{Tree}
 use Rattle.trees.specs.Judgements.{Context, Nil, WithVar, WithName, WithFace, Judgement, trees}
 use Rattle.trees.specs.Language.{Ctx, Ty, TyEq, Tm, TmEq, Sb}
@@ -28,20 +28,9 @@ over false false y false b n f g = absurd (cc f)
 pub goes_further : (t l m : Label) → goes_on t l ≡ true → goes_on l m ≡ true → goes_on t m ≡ true
 goes_further t l m f g = over (is_of_sides t) (is_of_contexts l) (is_of_sides l) (is_of_contexts m) (is_of_sides m) (exclusive l) f g
 
-pub or-context : (b : Bool) → (true || b) ≡ true
-or-context b = refl
-
 -- types are asked of sides
 pub goes_to_type : (l : Label) → is_of_sides l ≡ true → goes_on l label.Type ≡ true
 goes_to_type l s = ap (λ b. b && true) s
-
--- so right sides are
-side-of : (b : Bool) → (b && true) ≡ true → b ≡ true
-side-of true e = refl
-side-of false e = absurd (cc e)
-
-pub from_sides : (t : Label) → goes_on t label.Right ≡ true → is_of_sides t ≡ true
-from_sides t e = side-of (is_of_sides t) e
 
 either : (t x y : Bool) → (x || (t && y)) ≡ true → (x || y) ≡ true
 either t true y e = refl
@@ -110,11 +99,6 @@ is_type (TyEq G A B) C e = absurd (cc e)
 is_type (Tm G t A) C e = (G, A, (let same : Ty G A ≡ C = cc in sym same), refl)
 is_type (TmEq G t u A) C e = (G, A, (let same : Ty G A ≡ C = cc in sym same), refl)
 is_type (Sb H d G) C e = absurd (cc e)
-
-pub not_both : (l : Label) → is_of_contexts l ≡ true → is_of_sides l ≡ true → ⊥
-not_both l x y =
-    let e : true ≡ false = sym (ap₂ (λ a b. a && b) x y) ∙ exclusive l in
-    cc e
 
 -- what is asked stands there
 

@@ -16,12 +16,13 @@ use Rattle.theory.specs.declared.rule.SigmaRule.TheVariants.{SigTy}
 use Rattle.theory.specs.declared.rule.PathRule.TheVariants.{PathTy}
 use Rattle.theory.specs.declared.rule.NatRule.TheVariants.{NatU}
 use Rattle.theory.specs.declared.rule.SystemRule.TheVariants.{SysTy}
+use Rattle.theory.specs.declared.rule.CompRule.{CompRule}
 use Rattle.theory.specs.declared.rule.CompRule.TheVariants.{Comp, CompPi, CompSig, CompPath, CompGlue, CompU}
 use Rattle.theory.specs.declared.rule.GlueRule.TheVariants.{GlueTy}
 use Rattle.theory.specs.RuleNames.{kinds_of, name_of}
 use Rattle.theory.proofs.Names.{every_rule}
-use Rattle.trees.specs.Trees.{apply}
-use Rattle.trees.specs.Judgements.{Context, Nil, WithVar, WithName, WithFace, Judgement, TreeRule}
+use Rattle.trees.specs.Trees.{Tree, apply}
+use Rattle.trees.specs.Judgements.{Context, Nil, WithVar, WithName, WithFace, Judgement, TreeRule, trees}
 use Rattle.trees.specs.Things.{Thing, ATree, ASubst, AContext}
 use Rattle.trees.specs.Language.{Ctx, Ty, TyEq, Tm, TmEq, Sb}
 use Rattle.typed_nodes.proofs.StandLaws.{AreShort}
@@ -29,12 +30,15 @@ use Rattle.rules.specs.Rules.{AtAll, rule_at}
 use Rattle.rules.proofs.TableLaws.{at_these}
 use Rattle.book.proofs.NodeLaws.{named-all}
 use Rattle.patterns.specs.Patterns.{ContextPart, JudgementPattern}
+use Rattle.patterns.specs.Values.{Parts, judgement_of}
 use Rattle.recipes.specs.Made.{ShiftIsAtMost, greatest_part_shift}
 use Rattle.recipes.specs.Statements.{pattern_of}
 use Rattle.presuppositions.specs.declared.source.Label.{Label}
 use Rattle.presuppositions.specs.declared.source.Label.TheVariants as label
 use Rattle.presuppositions.specs.Behind.{behind}
 use Rattle.presuppositions.specs.Entries.{is_unfolded}
+use Rattle.kan_calls.specs.Unfoldings.{HasNoSubst}
+use Rattle.kan_types.specs.Types.{IsOfTypes}
 use Rattle.presupposed.specs.Parts.{IsInSight}
 
 -- the shift of a substitution is short
@@ -174,6 +178,14 @@ has_few rule = nat_le (length (kinds_of rule)) 16
 pub few_parts : (rule : RuleName) → length (kinds_of rule) ≤ 16
 few_parts rule = leb-true (length (kinds_of rule)) 16 (named-all has_few RULES.now (name_of rule) rule (every_rule rule) refl)
 
+-- a rule has few premises
+
+abbrev wants_few : RuleName → Bool
+wants_few rule = nat_le (length (pattern_of rule).wants) 16
+
+pub few_wants : (rule : RuleName) → length (pattern_of rule).wants ≤ 16
+few_wants rule = leb-true (length (pattern_of rule).wants) 16 (named-all wants_few RULES.now (name_of rule) rule (every_rule rule) refl)
+
 -- what is unfolded is a right side
 
 pub unfolded-right : (rule : RuleName) (l : Label) → is_unfolded rule l ≡ true → l ≡ label.Right
@@ -188,3 +200,46 @@ unfolded-right (Composition CompGlue) _ e = absurd (cc e)
 unfolded-right (Composition CompU) label.Right e = refl
 unfolded-right (Composition CompU) _ e = absurd (cc e)
 unfolded-right _ _ e = absurd (cc e)
+
+-- it is of an equation of terms
+
+abbrev is_of_terms : JudgementPattern → Bool
+is_of_terms (TmEq G a c A) = true
+is_of_terms _ = false
+
+of_terms : (rule : RuleName) → is_unfolded rule label.Right ≡ true → is_of_terms (pattern_of rule).gives ≡ true
+of_terms (Composition CompPi) e = refl
+of_terms (Composition CompSig) e = refl
+of_terms (Composition CompPath) e = refl
+of_terms (Composition CompGlue) e = refl
+of_terms (Composition CompU) e = refl
+of_terms _ e = absurd (cc e)
+
+equation_value : (v : Parts trees) (J : JudgementPattern) → is_of_terms J ≡ true → (G : Context) × (a c A : Tree) × (judgement_of v J ≡ TmEq G a c A)
+equation_value v (TmEq G a c A) e = (_, _, _, _, refl)
+equation_value v _ e = absurd (cc e)
+
+pub unfolded-equation : (v : Parts trees) (rule : RuleName) → is_unfolded rule label.Right ≡ true → (G : Context) × (a c A : Tree) × (judgement_of v (pattern_of rule).gives ≡ TmEq G a c A)
+unfolded-equation v rule e = equation_value v (pattern_of rule).gives (of_terms rule e)
+
+-- by a rule whose parts are no substitutions
+pub unfolded-plain : (rule : RuleName) → is_unfolded rule label.Right ≡ true → HasNoSubst (kinds_of rule)
+unfolded-plain (Composition CompPi) e = tt
+unfolded-plain (Composition CompSig) e = tt
+unfolded-plain (Composition CompPath) e = tt
+unfolded-plain (Composition CompGlue) e = tt
+unfolded-plain (Composition CompU) e = tt
+unfolded-plain _ e = absurd (cc e)
+
+-- which is one of composition
+pub unfolded-composition : (rule : RuleName) → is_unfolded rule label.Right ≡ true → ((r : CompRule) → rule ≡ Composition r → ⊥) → ⊥
+unfolded-composition (Composition r) e other = other r refl
+unfolded-composition _ e other = absurd (cc e)
+
+pub unfolded-types : (rule : CompRule) → is_unfolded (Composition rule) label.Right ≡ true → (rule ≡ CompGlue → ⊥) → (rule ≡ CompU → ⊥) → IsOfTypes (Composition rule)
+unfolded-types CompPi e g u = tt
+unfolded-types CompSig e g u = tt
+unfolded-types CompPath e g u = tt
+unfolded-types CompGlue e g u = absurd (g refl)
+unfolded-types CompU e g u = absurd (u refl)
+unfolded-types _ e g u = absurd (cc e)

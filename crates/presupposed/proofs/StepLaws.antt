@@ -2,7 +2,9 @@
 use Rattle.std.proofs.Common.{◌≡◌, ◌+◌, ◌*◌, ◌-◌, ◌<◌, ◌≤◌, ◌++◌, ◌||◌, ℕ, zero, suc, Bool, true, false, List, [], ◌∷◌, length, reverse, refl, sym, ◌∙◌, ap, subst, arith, Some}
 use Rattle.std.specs.Prelude.{slice_get, slice_index_or}
 use Rattle.theory.specs.declared.rule.RuleName.{RuleName}
-use Rattle.trees.specs.Judgements.{Judgement}
+use Rattle.trees.specs.Trees.{Tree}
+use Rattle.trees.specs.Judgements.{Context, Judgement}
+use Rattle.trees.specs.Language.{Ctx, Tm, TmEq}
 use Rattle.literal_types.proofs.StepLaws.{said_at}
 use Rattle.patterns.specs.Values.{parts_of, judgement_of}
 use Rattle.recipes.specs.Statements.{pattern_of}
@@ -10,28 +12,31 @@ use Rattle.book.specs.Contents.{Contents}
 use Rattle.book.specs.Nodes.{Node}
 use Rattle.book.specs.Right.{IsUse, IsMadeBy}
 use Rattle.book.specs.Shown.{book_concludes, book_means, book_nodes, Extends}
+use Rattle.book.specs.declared.few.RuleUse.{RuleUse}
 use Rattle.book.specs.declared.kernel.NodeId.{NodeId}
 use Rattle.typed_nodes.specs.Typed.{Says}
+use Rattle.typed_nodes.proofs.CallLaws.{all_said}
+use Rattle.kan_calls.specs.Unfoldings.{IsUseIn}
 use Rattle.glue_entries.specs.Statements.{equiv_tycong_statement}
+use Rattle.presuppositions.specs.declared.source.Label.TheVariants as label
 use Rattle.presuppositions.specs.declared.source.Source.{Source}
 use Rattle.presuppositions.specs.declared.source.Entry.{Entry}
 use Rattle.presuppositions.specs.Behind.{behind}
 use Rattle.presuppositions.specs.Entries.{IsEntry, has_none, is_unfolded}
-use Rattle.presuppositions.specs.Sought.{goes_on}
 use Rattle.presupposed.specs.declared.memory.Memory.{Memory}
 use Rattle.presupposed.specs.declared.memory.Question.{Question}
 use Rattle.presupposed.specs.declared.tasks.Task.{Task}
 use Rattle.presupposed.specs.declared.tasks.Task.TheVariants as task
 use Rattle.presupposed.specs.declared.walk.Search.{Search}
 use Rattle.presupposed.specs.Memory.{IsRemembered, remembered}
-use Rattle.presupposed.specs.Asked.{IsOnTheWay, IsUnfoldedBy, IsWanting, Stands, right_side}
-use Rattle.presupposed.specs.Tasks.{DoAll, Fills, place_of, tasks_for, weight, work}
+use Rattle.presupposed.specs.Asked.{IsOnTheWay, Stands, Unfolds}
+use Rattle.presupposed.specs.Tasks.{asked, DoAll, Fills, label_weight, place_of, task_weight, tasks_for, weight, work}
 use Rattle.presupposed.specs.Walks.{Goes, Leads}
 use Rattle.presupposed.proofs.FillLaws.{fills_next, fills_start, made_use, gives_pattern}
-use Rattle.presupposed.proofs.LabelLaws.{asked-kind, from_sides, pattern_has}
+use Rattle.presupposed.proofs.LabelLaws.{asked-kind, pattern_has}
 use Rattle.presupposed.proofs.LoopLaws.{one_answer}
-use Rattle.presupposed.proofs.RuleLaws.{all_shown, unfolded-right}
-use Rattle.presupposed.proofs.TaskLaws.{do_all_later, finds_source, remembers_later, remembers_one, stands_later, unfolded_later}
+use Rattle.presupposed.proofs.RuleLaws.{all_shown, unfolded-equation, unfolded-right}
+use Rattle.presupposed.proofs.TaskLaws.{do_all_later, finds_source, remembers_later, remembers_one, stands_later}
 use Rattle.presupposed.proofs.WeightLaws.{fill_work, source_work, work-append}
 
 pub at_index : {A : Type 0} (xs : List A) (i : ℕ) (d : A) → i < length xs → slice_get xs i ≡ Some (slice_index_or xs i d)
@@ -106,17 +111,45 @@ unfolds b top q J rule parts premises stands way by use_is none =
     let has = pattern_has v (pattern_of rule).gives q.label J (all_shown rule) (asked-kind top.label q.label way.goes) (ap (behind q.label) (sym gives) ∙ stands.2) in
     or-false _ (is_unfolded rule q.label) has none
 
-pub unfolded_by : (b : Contents) (q : Question) (rule : RuleName) (parts premises : List ℕ) → IsMadeBy rule parts premises (book_nodes b q.node.0) → is_unfolded rule q.label ≡ true → IsUnfoldedBy b q.node rule
-unfolded_by b q rule parts premises by u = ((by.node, by.is, by.rule_is), subst (λ l. is_unfolded rule l ≡ true) (unfolded-right rule q.label u) u)
+-- so the node concludes an equation of terms
+pub unfolds_equation : (b : Contents) (q : Question) (J : Judgement) (rule : RuleName) (parts premises : List ℕ) (stands : Stands b q J) (by : IsMadeBy rule parts premises (book_nodes b q.node.0)) → IsUse (book_means b) (book_concludes b) rule parts premises stands.0 → is_unfolded rule q.label ≡ true → (G : Context) × (a c A : Tree) × Unfolds b q.node G a c A × (J ≡ Tm G c A)
+unfolds_equation b q J rule parts premises stands by u e =
+    let right = unfolded-right rule q.label e in
+    let of = subst (λ l. is_unfolded rule l ≡ true) right e in
+    let (G, a, c, A, value) = unfolded-equation (parts_of u.things) rule of in
+    let gives : stands.0 ≡ judgement_of (parts_of u.things) (pattern_of rule).gives = gives_pattern rule u.things u.judgements stands.0 u.instance in
+    let is : stands.0 ≡ TmEq G a c A = gives ∙ value in
+    let there : Some (Tm G c A) ≡ Some J = subst (λ K. behind label.Right K ≡ Some J) is (subst (λ l. behind l stands.0 ≡ Some J) right stands.2) in
+    let same : Tm G c A ≡ J = cc in (
+      G,
+      a,
+      c,
+      A,
+      record { says = subst (Says b q.node) is stands.1; made = by.node; made_is = by.is; of = subst (λ r. is_unfolded r label.Right ≡ true) (sym by.rule_is) of },
+      sym same,
+    )
 
-pub stands_right : (b : Contents) (q : Question) (J : Judgement) (rule : RuleName) → is_unfolded rule q.label ≡ true → Stands b q J → Stands b (right_side q.node) J
-stands_right b q J rule u (K, says, e) = (K, says, subst (λ l. behind l K ≡ Some J) (unfolded-right rule q.label u) e)
+-- a right side is asked for in its context
+pub asks_context : (b : Contents) (search : Search) (top q : Question) (tasks : List Task) (I J : Judgement) (leads : Leads b search top I J) → IsOnTheWay top q → (G : Context) (a c A : Tree) → Unfolds b q.node G a c A → I ≡ Tm G c A → reverse tasks ≡ task.Ask (asked q.node label.Context) ∷ task.Unfold q.node ∷ reverse search.tasks.items → DoAll b top (reverse tasks) leads.last J
+asks_context b search top q tasks I J leads way G a c A u is order =
+    let context : IsOnTheWay top (asked q.node label.Context) = record { earlier = way.earlier; goes = refl } in
+    subst (λ ts. DoAll b top ts leads.last J) (sym order) (Ctx G, (context, (TmEq G a c A, u.says, refl)), (I, (G, a, c, A, refl, u, is), leads.leads))
 
-pub is_wanted : (has : RuleName → Bool) (old b : Contents) (top q : Question) (rule : RuleName) → Extends old b → IsUnfoldedBy old q.node rule → is_unfolded rule q.label ≡ true → has rule ≡ false → IsOnTheWay top q → IsWanting has b top q.node
-is_wanted has old b top q rule grown of u not_had way = record {
-  rule = rule;
-  of_rule = unfolded_later old b grown q.node rule of;
-  not_had = not_had;
-  earlier = way.earlier;
-  side = from_sides top.label (subst (λ l. goes_on top.label l ≡ true) (unfolded-right rule q.label u) way.goes);
+pub asks_context_less : (search : Search) (q : Question) (tasks : List Task) → q.label ≡ label.Right → reverse tasks ≡ task.Ask (asked q.node label.Context) ∷ task.Unfold q.node ∷ reverse search.tasks.items → work (reverse tasks) < task_weight (task.Ask q) + work (reverse search.tasks.items)
+asks_context_less search q tasks right order =
+    let sum : work (reverse tasks) ≡ 64 * weight q.node + 0 + (1 + work (reverse search.tasks.items)) = ap work order in
+    let more : label_weight q.label ≡ 2 = ap label_weight right in
+    omega (arith, sum, more)
+
+-- what a step that unfolds is, and what its right side is
+pub unfolded_use : (b : Contents) (ctx node : NodeId) (step : RuleUse) (G : Context) (a c A : Tree) → IsUse (book_means b) (book_concludes b) step.rule step.parts step.premises (TmEq G a c A) → Says b ctx (Ctx G) → IsUseIn b ctx step (TmEq G a c A)
+unfolded_use b ctx node step G a c A u says = record {
+  use_is = u;
+  context_is = all_said (book_concludes b) (ctx.0 ∷ []) (Ctx G ∷ []) (says, tt);
 }
+
+pub unfolded_rule : (b : Contents) (node : NodeId) (step : RuleUse) (G : Context) (a c A : Tree) → Unfolds b node G a c A → IsMadeBy step.rule step.parts step.premises (book_nodes b node.0) → is_unfolded step.rule label.Right ≡ true
+unfolded_rule b node step G a c A u by =
+    let e : Some by.node ≡ Some u.made = sym by.is ∙ u.made_is in
+    let same : by.node ≡ u.made = cc in
+    subst (λ r. is_unfolded r label.Right ≡ true) (sym (ap (λ n. n.rule) same) ∙ by.rule_is) u.of

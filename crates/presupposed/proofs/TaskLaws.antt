@@ -2,12 +2,12 @@
 use Rattle.std.proofs.Common.{◌≡◌, ◌<◌, ℕ, true, List, [], ◌∷◌, ◌++◌, refl, sym, ◌∙◌, ap, subst, arith, Option, Some, None, inl, inr}
 use Rattle.std.specs.Prelude.{slice_get, option_and_then}
 use Rattle.std.proofs.lemmas.Bool.{and_parts}
+use Rattle.trees.specs.Trees.{Tree}
 use Rattle.trees.specs.Judgements.{Context, Judgement, trees}
-use Rattle.trees.specs.Language.{Ctx, Ty}
+use Rattle.trees.specs.Language.{Ctx, Ty, TmEq}
 use Rattle.trees.specs.Things.{meanings}
 use Rattle.trees.proofs.Meanings.{kept-same, meanings-cons}
 use Rattle.rows.proofs.OptionLaws.{one-some}
-use Rattle.theory.specs.declared.rule.RuleName.{RuleName}
 use Rattle.book.specs.Contents.{Contents}
 use Rattle.book.specs.Shown.{book_concludes, book_means, Extends}
 use Rattle.book.specs.declared.kernel.NodeId.{NodeId}
@@ -25,7 +25,7 @@ use Rattle.presupposed.specs.declared.memory.Question.{Question}
 use Rattle.presupposed.specs.declared.tasks.Task.{Task}
 use Rattle.presupposed.specs.declared.tasks.Task.TheVariants as task
 use Rattle.presupposed.specs.Memory.{IsRemembered}
-use Rattle.presupposed.specs.Asked.{IsOnTheWay, IsUnfoldedBy, Stands}
+use Rattle.presupposed.specs.Asked.{IsOnTheWay, Stands, Unfolds}
 use Rattle.presupposed.specs.Parts.{IsInSight}
 use Rattle.presupposed.specs.Tasks.{asked, Awaits, DoAll, Does, Fills, place_of, tasks_for}
 use Rattle.presupposed.specs.Walks.{Remembers}
@@ -58,6 +58,14 @@ module _ (old new : Contents) (grown : Extends old new) where
     first = f.first;
   }
 
+  unfolds_later : (node : NodeId) (G : Context) (a c A : Tree) → Unfolds old node G a c A → Unfolds new node G a c A
+  unfolds_later node G a c A u = record {
+    says = grown.conclusions node.0 (TmEq G a c A) u.says;
+    made = u.made;
+    made_is = grown.nodes node.0 u.made u.made_is;
+    of = u.of;
+  }
+
   awaits_later : (q : Question) (e : Entry) (few : List ℕ) (K J : Judgement) → Awaits old q e few K J → Awaits new q e few K J
   unfolding fills_later
   awaits_later q e few K J a = record { fills = fills_later q e few J a.fills; more = a.more; next = a.next }
@@ -65,6 +73,7 @@ module _ (old new : Contents) (grown : Extends old new) where
   pub does_later : (top : Question) (t : Task) (K J : Judgement) → Does old top t K J → Does new top t K J
   does_later top (task.Take node) K J d = grown.conclusions node.0 J d
   does_later top (task.Ask q) K J (way, stands) = (way, stands_later q J stands)
+  does_later top (task.Unfold node) K J (G, a, c, A, is, u, e) = (G, a, c, A, is, unfolds_later node G a c A u, e)
   does_later top (task.LastEntry l) K J d = d
   does_later top (task.PartIn q l) K J (G, T, is, way, stands, part, e) = (G, T, is, way, stands_later q (Ctx G) stands, part, e)
   does_later top (task.PartOf ty l) K J (G, T, is, says, part, e) = (G, T, is, grown.conclusions ty.0 (Ty G T) says, part, e)
@@ -76,9 +85,6 @@ module _ (old new : Contents) (grown : Extends old new) where
 
   pub remembers_later : (memory : Memory) → Remembers old memory → Remembers new memory
   remembers_later memory h = λ q node e. let (J, stands, says) = h q node e in (J, stands_later q J stands, grown.conclusions node.0 J says)
-
-  pub unfolded_later : (node : NodeId) (rule : RuleName) → IsUnfoldedBy old node rule → IsUnfoldedBy new node rule
-  unfolded_later node rule ((made, is, of), u) = ((made, grown.nodes node.0 made is, of), u)
 
 -- with one answer more
 pub remembers_one : (b : Contents) (q : Question) (node : NodeId) (J : Judgement) (old new : Memory) → Remembers b old → Stands b q J → Says b node J → IsRemembered q node old new → Remembers b new

@@ -1,6 +1,5 @@
--- Questions, and what answers them.
-use Rattle.std.specs.Prelude.{◌≡◌, ◌≤◌, Bool, true, false, Some}
-use Rattle.theory.specs.declared.rule.RuleName.{RuleName}
+-- Questions, and of what they may be asked.
+use Rattle.std.specs.Prelude.{◌≡◌, ◌≤◌, true, Some}
 use Rattle.trees.specs.Trees.{Tree}
 use Rattle.trees.specs.Judgements.{Context, Judgement}
 use Rattle.trees.specs.Language.{Ty, TyEq, Tm, TmEq}
@@ -12,10 +11,8 @@ use Rattle.typed_nodes.specs.Typed.{Says}
 use Rattle.presuppositions.specs.declared.source.Label.TheVariants as label
 use Rattle.presuppositions.specs.Behind.{behind}
 use Rattle.presuppositions.specs.Entries.{is_unfolded}
-use Rattle.presuppositions.specs.Sought.{goes_on, is_of_sides}
+use Rattle.presuppositions.specs.Sought.{goes_on}
 use Rattle.presupposed.specs.declared.memory.Question.{Question}
-use Rattle.presupposed.specs.declared.walk.Found.{Found}
-use Rattle.presupposed.specs.declared.walk.Found.TheVariants as found
 
 abbrev pub IsJudgedIn : Judgement → Context → Type 0
 IsJudgedIn (Ty H A) G = H ≡ G
@@ -50,31 +47,15 @@ IsAt b node G A = (J : Judgement) × Says b node J × IsJudgedAt J G A
 abbrev pub Equates : Contents → NodeId → Judgement → Judgement → Type 0
 Equates b node left right = (J : Judgement) × Says b node J × IsEquation J left right
 
-abbrev pub right_side : NodeId → Question
-right_side node = record { node = node; label = label.Right }
-
--- the rule made the node
-abbrev pub IsOfRule : Contents → NodeId → RuleName → Type 0
-IsOfRule b node rule = (made : Node) × (book_nodes b node.0 ≡ Some made) × (made.rule ≡ rule)
-
--- the rule made the node, and is one of composition whose right sides are typed as they are made
-abbrev pub IsUnfoldedBy : Contents → NodeId → RuleName → Type 0
-IsUnfoldedBy b node rule = IsOfRule b node rule × (is_unfolded rule label.Right ≡ true)
+-- The node concludes this equation of terms, by a rule of composition whose right sides are typed as
+-- they are unfolded.
+pub record Unfolds (b : Contents) (node : NodeId) (G : Context) (a c A : Tree) : Type 0 where
+  pub says : Says b node (TmEq G a c A)
+  pub made : Node
+  pub made_is : book_nodes b node.0 ≡ Some made
+  pub of : is_unfolded made.rule label.Right ≡ true
 
 -- the question is asked on the way to that one: of that node or an earlier one
 pub record IsOnTheWay (top q : Question) : Type 0 where
   pub earlier : q.node.0 ≤ top.node.0
   pub goes : goes_on top.label q.label ≡ true
-
--- the right side of the node is wanted, for a type or a side, and not had
-pub record IsWanting (has : RuleName → Bool) (b : Contents) (q : Question) (node : NodeId) :
-    Type 0 where
-  pub rule : RuleName
-  pub of_rule : IsUnfoldedBy b node rule
-  pub not_had : has rule ≡ false
-  pub earlier : node.0 ≤ q.node.0
-  pub side : is_of_sides q.label ≡ true
-
-abbrev pub IsFound : (RuleName → Bool) → Contents → Question → Found → Judgement → Type 0
-IsFound has b q (found.Node node) J = Says b node J
-IsFound has b q (found.Wanting node) J = IsWanting has b q node

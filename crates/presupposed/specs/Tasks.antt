@@ -4,7 +4,7 @@ use Rattle.std.specs.Prelude.{take, Some, true}
 use Rattle.std.specs.List.{list_all}
 use Rattle.trees.specs.Trees.{Tree}
 use Rattle.trees.specs.Judgements.{Context, Judgement, trees}
-use Rattle.trees.specs.Language.{Ctx, Ty}
+use Rattle.trees.specs.Language.{Ctx, Tm, Ty}
 use Rattle.trees.specs.Things.{meanings}
 use Rattle.book.specs.Contents.{Contents}
 use Rattle.book.specs.Nodes.{Node}
@@ -24,7 +24,7 @@ use Rattle.presuppositions.specs.Sought.{is_of_parts, is_sought}
 use Rattle.presupposed.specs.declared.memory.Question.{Question}
 use Rattle.presupposed.specs.declared.tasks.Task.{Task}
 use Rattle.presupposed.specs.declared.tasks.Task.TheVariants as task
-use Rattle.presupposed.specs.Asked.{IsOnTheWay, Stands}
+use Rattle.presupposed.specs.Asked.{IsOnTheWay, Stands, Unfolds}
 use Rattle.presupposed.specs.Parts.{IsInSight}
 
 abbrev pub place_of : Source → ℕ
@@ -76,6 +76,8 @@ pub record Awaits (b : Contents) (q : Question) (e : Entry) (few : List ℕ) (K 
 abbrev pub Does : Contents → Question → Task → Judgement → Judgement → Type 0
 Does b top (task.Take node) K J = Says b node J
 Does b top (task.Ask q) K J = IsOnTheWay top q × Stands b q J
+Does b top (task.Unfold node) K J =
+    (G : Context) × (a c A : Tree) × (K ≡ Ctx G) × Unfolds b node G a c A × (J ≡ Tm G c A)
 Does b top (task.LastEntry l) K J =
     (G : Context) × (K ≡ Ctx G) × IsInSight l G × (behind l (Ctx G) ≡ Some J)
 Does b top (task.PartIn q l) K J =
@@ -92,16 +94,22 @@ DoAll b top [] K J = K ≡ J
 DoAll b top (t ∷ ts) K J = (I : Judgement) × Does b top t K I × DoAll b top ts I J
 
 -- A question weighs more than what its entry asks: at most 16 sources, each of at most two
--- questions of an earlier node.
+-- questions of an earlier node. That for a right side weighs more than that for the context of the
+-- node, where it is unfolded.
 
 abbrev pub weight : NodeId → ℕ
 weight node = 64 ^ node.0
 
+abbrev pub label_weight : Label → ℕ
+label_weight label.Right = 2
+label_weight _ = 0
+
 abbrev pub task_weight : Task → ℕ
 task_weight (task.Take node) = 1
-task_weight (task.Ask q) = 64 * weight q.node
+task_weight (task.Ask q) = 64 * weight q.node + label_weight q.label
+task_weight (task.Unfold node) = 1
 task_weight (task.LastEntry l) = 1
-task_weight (task.PartIn q l) = 64 * weight q.node + 2
+task_weight (task.PartIn q l) = 64 * weight q.node + 4
 task_weight (task.PartOf node l) = 1
 task_weight (task.Fill q e few) = (16 - length few) * (3 * weight q.node) + 1
 

@@ -1,6 +1,5 @@
 -- What walks find.
-use Rattle.std.specs.Prelude.{◌≡◌, ℕ, Bool, Some, reverse}
-use Rattle.theory.specs.declared.rule.RuleName.{RuleName}
+use Rattle.std.specs.Prelude.{◌≡◌, ℕ, Some, reverse}
 use Rattle.trees.specs.Judgements.{Judgement}
 use Rattle.book.specs.Contents.{Contents}
 use Rattle.book.specs.declared.kernel.NodeId.{NodeId}
@@ -8,11 +7,9 @@ use Rattle.typed_nodes.specs.Typed.{Says}
 use Rattle.presupposed.specs.declared.memory.Memory.{Memory}
 use Rattle.presupposed.specs.declared.memory.Question.{Question}
 use Rattle.presupposed.specs.declared.tasks.Task.{Task}
-use Rattle.presupposed.specs.declared.walk.Next.{Next}
-use Rattle.presupposed.specs.declared.walk.Next.TheVariants as next
 use Rattle.presupposed.specs.declared.walk.Search.{Search}
 use Rattle.presupposed.specs.Memory.{remembered}
-use Rattle.presupposed.specs.Asked.{IsWanting, Stands}
+use Rattle.presupposed.specs.Asked.{Stands}
 use Rattle.presupposed.specs.Tasks.{Does, DoAll, work}
 
 -- what was found answers its question
@@ -35,11 +32,6 @@ DoesNext b search top task I =
 -- what is to be done finds J in the end
 abbrev pub Goes : Contents → Search → Question → Judgement → Type 0
 Goes b search top J = (K : Judgement) × Says b search.found K × Leads b search top K J
-
--- so it goes on, or a right side is wanted and not had
-abbrev pub Comes : (RuleName → Bool) → Contents → Search → Question → Next → Judgement → Type 0
-Comes has b search top next.Moved J = Goes b search top J
-Comes has b search top (next.Wanting node) J = IsWanting has b top node
 
 -- what the tasks weigh
 abbrev pub to_do : Search → ℕ

@@ -9,8 +9,7 @@ ghost use Rattle.book.specs.Shown.{Extends, book_means};
 ghost use Rattle.typed_nodes.specs.Typed.{Says};
 ghost use Rattle.presupposed.specs.Anchors.{IsAnchor, IsReflexive};
 
-use crate::walk::listed;
-use book::{Book, NodeId, RuleUse};
+use book::{Book, Few, NodeId, RuleUse};
 use std::alloc::AllocError;
 use theory::{EqualityRule, RuleName};
 use typed_nodes::{subject_row, type_row};
@@ -37,8 +36,8 @@ fn reflexive(book: &mut Book, ctx: u64, tree: u64, ty: NodeId) -> Result<NodeId,
 {
     Ok(book.conclude(&RuleUse {
         rule: RuleName::Equality(EqualityRule::TyEqRefl),
-        parts: listed(&[ctx, tree]),
-        premises: listed(&[ty.0]),
+        parts: Few::of(&[ctx, tree]),
+        premises: Few::of(&[ty.0]),
     })?)
 }
 
@@ -62,7 +61,7 @@ pub fn anchor(book: &mut Book, typing: NodeId, ty: NodeId) -> Result<NodeId, All
     let same = reflexive(book, ctx, tree, ty)?;
     Ok(book.conclude(&RuleUse {
         rule: RuleName::Equality(EqualityRule::TmConv),
-        parts: listed(&[ctx, term, tree, tree]),
-        premises: listed(&[typing.0, same.0]),
+        parts: Few::of(&[ctx, term, tree, tree]),
+        premises: Few::of(&[typing.0, same.0]),
     })?)
 }

@@ -4,8 +4,8 @@
 //!
 //! ```text
 //! // term : G >> app f a : B{a}, made by app of f : pi A B and a : A
-//! let found = type_of(alloc, book, &NoRightSides, term)?;
-//! // Found::Node, of G >> B{a}: the codomain of the type of f, under a
+//! let ty = type_of(alloc, book, term)?;
+//! // G >> B{a}: the codomain of the type of f, under a
 //! ```
 #![tactic(auto)]
 
@@ -24,6 +24,4 @@ pub use anchors::anchor;
 pub use kids::{kid_of, kids_of};
 pub use memory::Question;
 pub use questions::{context_of, far_of, home_of, left_of, right_of, type_of};
-pub use right_sides::{NoRightSides, RightSides};
 pub use terms::{OpenedTerm, TermKids, fits_of, opened_term};
-pub use walk::Found;

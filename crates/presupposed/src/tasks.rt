@@ -17,6 +17,8 @@ pub enum Task {
     Take(NodeId),
     /// To find what stands behind a node.
     Ask(Question),
+    /// To type the right side of a node that unfolds, where its context was found.
+    Unfold(NodeId),
     /// To take the last entry of the context that was found.
     LastEntry(Label),
     /// To ask for the context that the type that was found is in, and then for a part of it.

@@ -7,42 +7,21 @@ ghost use Rattle.book.specs.Nodes.{Node};
 ghost use Rattle.book.specs.Shown.{Extends, book_nodes};
 ghost use Rattle.typed_nodes.specs.Typed.{Says};
 ghost use Rattle.presupposed.specs.declared.tasks.Task.TheVariants as task;
-ghost use Rattle.presupposed.specs.Asked.{IsFound, IsOnTheWay, Stands};
+ghost use Rattle.presupposed.specs.Asked.{IsOnTheWay, Stands};
 ghost use Rattle.presupposed.specs.Tasks.{Fills, place_of, task_weight, weight};
-ghost use Rattle.presupposed.specs.Walks.{Comes, DoesNext, Goes, Leads, to_do};
+ghost use Rattle.presupposed.specs.Walks.{DoesNext, Goes, Leads, to_do};
 
 use crate::earlier::Equivalences;
 use crate::memory::{Memory, Question};
 use crate::parts::{last_entry, part_of};
-use crate::right_sides::RightSides;
+use crate::right_sides::right_side;
 use crate::tasks::{Task, place, plan};
 use book::{Book, Few, NodeId};
 use book_shifts::laws_of_shifts;
 use entries::entry;
-use presuppositions::{Entry, Source};
+use presuppositions::{Entry, Label, Source};
 use recipe_runner::run;
 use std::alloc::{AllocError, Global};
-
-/// What was found behind a node.
-#[derive(Clone, Copy, Debug, PartialEq, Eq)]
-pub enum Found {
-    /// The node of what stands there.
-    Node(NodeId),
-    /// Nothing, for want of the right side of this node, which is by a rule of composition.
-    Wanting(NodeId),
-}
-
-/// These numbers.
-pub fn listed(numbers: &[u64]) -> Few
-    requires { length numbers.now ≤ 16 }
-    ensures { result ≡ numbers.now }
-{
-    let mut few = Few::new();
-    for number in numbers {
-        few.push(*number);
-    }
-    few
-}
 
 /// The node of what an entry gives, where it has nodes of all its sources.
 fn concluded(
@@ -58,7 +37,7 @@ fn concluded(
         Fills book.old question «entry» premises.now J → Says book.new node J) }
 {
     laws_of_shifts(book);
-    let parts = listed(book.step(question.node).parts);
+    let parts = Few::of(book.step(question.node).parts);
     let nodes = run(
         book,
         &Equivalences,
@@ -80,14 +59,6 @@ fn premise_of(book: &Book, node: NodeId, source: Source) -> NodeId
 {
     let premises = book.step(node).premises;
     NodeId(premises[place(source) as usize])
-}
-
-/// How a step ended.
-#[derive(Clone, Copy, Debug, PartialEq, Eq)]
-pub enum Next {
-    Moved,
-    /// The right side of this node is wanted, and not had.
-    Wanting(NodeId),
 }
 
 /// What is to be done, the first task last, and what was found.
@@ -133,58 +104,67 @@ impl Search {
     }
 
     /// Answers a question from what was found, or begins with the entry of the rule and the label.
-    fn ask<R: RightSides>(
-        &mut self,
-        book: &mut Book,
-        rights: &R,
-        question: Question,
-    ) -> Result<Next, AllocError>
+    /// A right side that no entry has is unfolded in its context.
+    fn ask(&mut self, book: &mut Book, question: Question) -> Result<(), AllocError>
         requires { (top : Question) × (I J : Judgement) × Leads book.old self.old top I J
             × IsOnTheWay top question × Stands book.old question I }
         ensures extends { Extends book.old book.new }
-        ensures goes { IfOk result (λ next. (top : Question) (I J : Judgement) →
+        ensures goes { OnOk result ((top : Question) (I J : Judgement) →
             Leads book.old self.old top I J → IsOnTheWay top question
-            → Stands book.old question I
-            → Comes (R.has rights.now) book.new self.new top next J) }
-        ensures less { IfOk result (λ next. to_do self.new
+            → Stands book.old question I → Goes book.new self.new top J) }
+        ensures less { OnOk result (to_do self.new
             < task_weight (task.Ask question) + to_do self.old) }
     {
         if let Some(node) = self.memory.get(question) {
             self.found = node;
-            return Ok(Next::Moved);
+            return Ok(());
         }
-        let rule = book.step(question.node).rule;
+        let node = question.node;
+        let rule = book.step(node).rule;
         if let Some(entry) = entry(rule, question.label) {
-            self.fill(book, question, entry, Few::new())?;
-            return Ok(Next::Moved);
+            return Ok(self.fill(book, question, entry, Few::new())?);
         }
-        match rights.right_side(self.alloc, book, question.node)? {
-            Some(node) => {
-                self.memory.insert(question, node)?;
-                self.found = node;
-                Ok(Next::Moved)
-            }
-            None => Ok(Next::Wanting(question.node)),
-        }
+        self.tasks.push(Task::Unfold(node))?;
+        self.tasks.push(Task::Ask(Question {
+            node,
+            label: Label::Context,
+        }))?;
+        Ok(())
+    }
+
+    /// Types the right side of a node, whose context was found.
+    fn unfold(&mut self, book: &mut Book, node: NodeId) -> Result<(), AllocError>
+        requires { (top : Question) × (I J : Judgement) × Leads book.old self.old top I J
+            × DoesNext book.old self.old top (task.Unfold node) I }
+        ensures extends { Extends book.old book.new }
+        ensures goes { OnOk result ((top : Question) (I J : Judgement) →
+            Leads book.old self.old top I J
+            → DoesNext book.old self.old top (task.Unfold node) I → Goes book.new self.new top J) }
+        ensures less { OnOk result (to_do self.new ≡ to_do self.old) }
+    {
+        let right = right_side(book, self.found, node)?;
+        let question = Question {
+            node,
+            label: Label::Right,
+        };
+        self.memory.insert(question, right)?;
+        self.found = right;
+        Ok(())
     }
 
     /// Does a task.
-    fn step<R: RightSides>(
-        &mut self,
-        book: &mut Book,
-        rights: &R,
-        task: Task,
-    ) -> Result<Next, AllocError>
+    fn step(&mut self, book: &mut Book, task: Task) -> Result<(), AllocError>
         requires { (top : Question) × (I J : Judgement) × Leads book.old self.old top I J
             × DoesNext book.old self.old top «task» I }
         ensures extends { Extends book.old book.new }
-        ensures goes { IfOk result (λ next. (top : Question) (I J : Judgement) →
+        ensures goes { OnOk result ((top : Question) (I J : Judgement) →
             Leads book.old self.old top I J → DoesNext book.old self.old top «task» I
-            → Comes (R.has rights.now) book.new self.new top next J) }
-        ensures less { IfOk result (λ next. to_do self.new < task_weight «task» + to_do self.old) }
+            → Goes book.new self.new top J) }
+        ensures less { OnOk result (to_do self.new < task_weight «task» + to_do self.old) }
     {
         match task {
-            Task::Ask(question) => return Ok(self.ask(book, rights, question)?),
+            Task::Ask(question) => self.ask(book, question)?,
+            Task::Unfold(node) => self.unfold(book, node)?,
             Task::Take(node) => self.found = node,
             Task::LastEntry(label) => self.found = last_entry(book, self.found, label),
             Task::PartIn(question, label) => {
@@ -199,26 +179,21 @@ impl Search {
                 self.fill(book, question, entry, few)?;
             }
         }
-        Ok(Next::Moved)
+        Ok(())
     }
 }
 
-/// The node that answers a question, or that of a right side which is wanted and not had. Each
-/// question is answered once; a part of a type is looked up each time it is asked for.
+/// The node that answers a question. Each question is answered once; a part of a type is looked up
+/// each time it is asked for.
 ///
 /// # Errors
 /// Only where memory runs out.
-pub fn answer<R: RightSides>(
-    alloc: Global,
-    book: &mut Book,
-    rights: &R,
-    question: Question,
-) -> Result<Found, AllocError>
+pub fn answer(alloc: Global, book: &mut Book, question: Question) -> Result<NodeId, AllocError>
     requires stands { (J : Judgement) × Stands book.old question J }
     requires way { IsOnTheWay question question }
     ensures extends { Extends book.old book.new }
-    ensures found { IfOk result (λ found. (J : Judgement) → Stands book.old question J
-        → IsFound (R.has rights.now) book.new question found J) }
+    ensures found { IfOk result (λ node. (J : Judgement) → Stands book.old question J
+        → Says book.new node J) }
 {
     let mut search = Search {
         alloc,
@@ -228,10 +203,7 @@ pub fn answer<R: RightSides>(
     };
     search.tasks.push(Task::Ask(question))?;
     while let Some(task) = search.tasks.pop() {
-        match search.step(book, rights, task)? {
-            Next::Moved => (),
-            Next::Wanting(node) => return Ok(Found::Wanting(node)),
-        }
+        search.step(book, task)?;
     }
-    Ok(Found::Node(search.found))
+    Ok(search.found)
 }

@@ -3,27 +3,27 @@
 ghost use Rattle.presupposed_tests.specs.Grown.{IsEquation, IsForm, IsTerm};
 
 use book::{Book, NodeId};
-use presupposed::{Found, NoRightSides, OpenedTerm, left_of, opened_term, type_of};
+use presupposed::{OpenedTerm, left_of, opened_term, type_of};
 use std::alloc::{AllocError, Global};
 
-/// What is found behind a term as its type.
+/// The type of a term.
 ///
 /// # Errors
 /// Only where memory runs out.
-pub fn type_of_term(alloc: Global, book: &mut Book, term: NodeId) -> Result<Found, AllocError>
+pub fn type_of_term(alloc: Global, book: &mut Book, term: NodeId) -> Result<NodeId, AllocError>
     requires { IsTerm book.old term }
 {
-    Ok(type_of(alloc, book, &NoRightSides, term)?)
+    Ok(type_of(alloc, book, term)?)
 }
 
-/// What is found behind an equation as its left side.
+/// The left side of an equation.
 ///
 /// # Errors
 /// Only where memory runs out.
-pub fn left_side(alloc: Global, book: &mut Book, equation: NodeId) -> Result<Found, AllocError>
+pub fn left_side(alloc: Global, book: &mut Book, equation: NodeId) -> Result<NodeId, AllocError>
     requires { IsEquation book.old equation }
 {
-    Ok(left_of(alloc, book, &NoRightSides, equation)?)
+    Ok(left_of(alloc, book, equation)?)
 }
 
 /// The parts of a term that is a form.

@@ -2,7 +2,7 @@
 //!
 //! ```text
 //! let term = successors(&mut book, 3)?;                // [] >> suc (suc (suc zero)) : nat
-//! type_of_term(alloc, &mut book, term)?                // Found::Node, of [] >> nat
+//! type_of_term(alloc, &mut book, term)?                // [] >> nat
 //! ```
 #![tactic(auto)]
 

@@ -1,45 +1,43 @@
-//! The hash of a row: SipHash-1-3, word by word.
+//! The hash of a row: a product of two words for each word.
 //!
-//! Its key is a constant, so whoever writes a file can compute it. It mixes so well that no way is
-//! known to make rows whose hashes share chosen bits other than by trying rows.
+//! The words go to two states by turns, so that a processor works on two products at once. A product
+//! of 128 bits is folded to its halves' sum without carries, so each bit of a hash depends on each
+//! word. Its keys are constants, so whoever writes a file can compute it. It is not made to
+//! withstand one who looks for rows whose hashes share many bits, though no way is known to make
+//! them other than by trying.
 
 ghost use Rattle.std.specs.Prelude.{◌≡◌};
-ghost use Rattle.region.specs.Hashes.{added, mixed, hash_of};
+ghost use Rattle.region.specs.Hashes.{folded, added, hash_of};
 
-/// The state of the hash, of four words.
+/// The state of the hash: what the next word is added to, and what the one after it is.
 #[derive(Clone, Copy)]
 struct State {
-    v0: u64,
-    v1: u64,
-    v2: u64,
-    v3: u64,
+    next: u64,
+    other: u64,
 }
 
-/// The state that "somepseudorandomlygeneratedbytes" spells.
+/// The state before any word.
 const START: State = State {
-    v0: 0x736f_6d65_7073_6575,
-    v1: 0x646f_7261_6e64_6f6d,
-    v2: 0x6c79_6765_6e65_7261,
-    v3: 0x7465_6462_7974_6573,
+    next: 0x243f_6a88_85a3_08d3,
+    other: 0x1319_8a2e_0370_7344,
 };
 
-/// One round of the mix.
-#[tactic(auto, unfolding(crate::specs::Hashes::mixed))]
-fn mixed(state: State) -> State
-    ensures { result ≡ mixed state }
+/// What a word is multiplied with.
+const OF_WORD: u64 = 0xa409_3822_299f_31d1;
+
+/// What the number of the words is multiplied with.
+const OF_COUNT: u64 = 0x082e_fa98_ec4e_6c89;
+
+/// What both states are multiplied with in the end.
+const OF_STATES: u64 = 0x4528_21e6_38d0_1377;
+
+/// The two halves of a product, added without carries.
+#[tactic(auto, unfolding(crate::specs::Hashes::folded))]
+fn folded(left: u64, right: u64) -> u64
+    ensures { result ≡ folded left right }
 {
-    let v0 = state.v0.wrapping_add(state.v1);
-    let v1 = state.v1.rotate_left(13) ^ v0;
-    let v2 = state.v2.wrapping_add(state.v3);
-    let v3 = state.v3.rotate_left(16) ^ v2;
-    let low = v2.wrapping_add(v1);
-    let high = v0.rotate_left(32).wrapping_add(v3);
-    State {
-        v0: high,
-        v1: v1.rotate_left(17) ^ low,
-        v2: low.rotate_left(32),
-        v3: v3.rotate_left(21) ^ high,
-    }
+    let (low, high) = left.carrying_mul(right, 0);
+    high ^ low
 }
 
 /// The state after one more word.
@@ -47,22 +45,18 @@ fn mixed(state: State) -> State
 fn added(state: State, word: u64) -> State
     ensures { result ≡ added state word }
 {
-    let v3 = state.v3 ^ word;
-    let next = mixed(State { v3, ..state });
     State {
-        v0: next.v0 ^ word,
-        ..next
+        next: state.other,
+        other: folded(state.next ^ word, OF_WORD),
     }
 }
 
-/// The hash of a row: its words, then their number, and three rounds more.
+/// The hash of a row: its words, then their number, and then both states.
 #[tactic(auto, unfolding(crate::specs::Hashes::hash_of))]
 pub fn hash(row: &[u64]) -> u64
     ensures { result ≡ hash_of row.now }
 {
     let state = row.iter().fold(START, |state, word| added(state, *word));
-    let state = added(state, row.len() as u64);
-    let v2 = state.v2 ^ 0xff;
-    let last = mixed(mixed(mixed(State { v2, ..state })));
-    last.v0 ^ last.v1 ^ last.v2 ^ last.v3
+    let counted = folded(state.next ^ row.len() as u64, OF_COUNT);
+    folded(counted ^ state.other, OF_STATES)
 }

@@ -1,5 +1,5 @@
-//! Codes as texts: `#0` is an index, `@0` a number, `{..}` is what stands under a name or variable of
-//! its own, `[..]` what is applied to one.
+//! Codes as texts: `#0` is an index, `@0` a number, `{..}` is what stands under a name or variable
+//! of its own, `[..]` what is applied to one.
 
 use resolver::{
     Binder, Code, CodeDef, Element, Equation, Formula, LineSide, Opened, PairSide, Side,

@@ -100,7 +100,8 @@ impl Rows for KnownRows {
         ∷ AContext (WithName Nil) ∷ ATree face ∷ AContext (WithFace Nil face)
         ∷ AContext (WithName (WithFace Nil face))
         ∷ ATree (Make op.Join (More face (More face NoTrees)))
-        ∷ ATree start ∷ ATree end ∷ ASubst (push (shift_by 0) start) ∷ ASubst (push (shift_by 0) end)
+        ∷ ATree start ∷ ATree end
+        ∷ ASubst (push (shift_by 0) start) ∷ ASubst (push (shift_by 0) end)
         ∷ ATree (Make op.Comp (More nat (More face (More zero (More (Var 0) NoTrees)))))
         ∷ ATree (Make op.Comp (More universe (More face (More one (More lam NoTrees)))))
         ∷ []) };

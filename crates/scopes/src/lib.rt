@@ -21,6 +21,3 @@ mod scope;
 pub use names::{Binding, Found};
 pub use place::Place;
 pub use scope::{Name, Scope, ScopeName, ScopeNames};
-
-#[cfg(test)]
-mod tests;

@@ -78,7 +78,8 @@ pub fn trees_are_named()
     ensures equivalences { (T A : Tree) → equiv trees T A ≡ named_equiv trees T A }
     ensures functions { (A B p b a : Tree) → comp_pi trees A B p b a ≡ named_pi trees A B p b a }
     ensures pairs { (A B p b a : Tree) → comp_sig trees A B p b a ≡ named_sig trees A B p b a }
-    ensures paths { (A u v p b a : Tree) → comp_path trees A u v p b a ≡ named_path trees A u v p b a }
+    ensures paths { (A u v p b a : Tree) →
+        comp_path trees A u v p b a ≡ named_path trees A u v p b a }
     ensures gluing { (A q T w p b a : Tree) →
         comp_glue trees A q T w p b a ≡ named_glue trees A q T w p b a }
     ensures universe { (p b a : Tree) → comp_u trees p b a ≡ named_u trees p b a }

@@ -262,8 +262,8 @@ impl CheckState {
         Ok(())
     }
 
-    /// Goes under a variable of the type that was found last, which stays, where a type is literally
-    /// one of functions from it. The answer is what is left of that type.
+    /// Goes under a variable of the type that was found last, which stays, where a type is
+    /// literally one of functions from it. The answer is what is left of that type.
     fn take_variable(&mut self, book: &mut Book, ty: TypeAt) -> Result<Option<TypeAt>, AllocError>
         requires { (S : State) × (A W : Tree) × (js : List Judgement) × IsState book.old self.old S
             × (S.found ≡ Ty (place S) A ∷ js) × IsTypeAt book.old ty (place S) W }

@@ -8,7 +8,10 @@ use Rattle.kan_tests.specs.declared.pres_numbers.TheConstants.{PRES_NUMBERS, PRE
 use Rattle.kan_tests.specs.declared.ext_variable.TheConstants.{EXT_VARIABLE, EXT_VARIABLE_GIVES}
 use Rattle.kan_tests.specs.declared.ext_numbers.TheConstants.{EXT_NUMBERS, EXT_NUMBERS_GIVES}
 use Rattle.book_tests.proofs.RunLaws.{may-try}
+use Rattle.behind_tests.specs.Compositions.{compositions_statement, glued_composition_statement}
 use Rattle.behind_tests.specs.Glued.{glued_statement}
+use Rattle.behind_tests.specs.declared.compositions.TheConstants.{COMPOSITIONS, COMPOSITIONS_GIVES}
+use Rattle.behind_tests.specs.declared.glued_composition.TheConstants.{GLUED_COMPOSITION, GLUED_COMPOSITION_GIVES}
 use Rattle.behind_tests.specs.declared.glued.TheConstants.{GLUED, GLUED_GIVES}
 use Rattle.behind_tests.proofs.runs.derive_whole.Goals as goal
 
@@ -31,4 +34,10 @@ pub given-requires-in-Identity-clause-right : goal.given-requires-in-Identity-cl
 given-requires-in-Identity-clause-right c = (conclusions_at identity_statement [], may-try earlier identity_statement EXT_NUMBERS.now EXT_NUMBERS_GIVES.now refl refl refl c.identity_is_equivalence.ensures)
 
 pub given-requires-in-Glue-clause-right : goal.given-requires-in-Glue-clause-right
-given-requires-in-Glue-clause-right c = (conclusions_at glued_statement [], may-try earlier glued_statement GLUED.now GLUED_GIVES.now refl refl refl c.glued_is_derived.ensures)
+given-requires-in-Glue-clause-right c = (conclusions_at glued_statement [], may-try earlier glued_statement GLUED.now GLUED_GIVES.now refl refl refl c.tables_are_derived.ensures.glued)
+
+pub given-requires-in-Compositions-clause-right : goal.given-requires-in-Compositions-clause-right
+given-requires-in-Compositions-clause-right c = (conclusions_at compositions_statement [], may-try earlier compositions_statement COMPOSITIONS.now COMPOSITIONS_GIVES.now refl refl refl c.tables_are_derived.ensures.compositions)
+
+pub given-requires-in-GluedComposition-clause-right : goal.given-requires-in-GluedComposition-clause-right
+given-requires-in-GluedComposition-clause-right c = (conclusions_at glued_composition_statement [], may-try earlier glued_composition_statement GLUED_COMPOSITION.now GLUED_COMPOSITION_GIVES.now refl refl refl c.tables_are_derived.ensures.glued_composition)

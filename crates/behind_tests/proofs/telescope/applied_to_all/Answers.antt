@@ -20,10 +20,10 @@ loop-init c =
     let number_ctx = says_later _ _ c.in_ok-ctx.ctx (Ctx Nil) c.in_ok-numbers.ensures.extends ctx in
     let numbers = says_later _ _ c.in_ok-numbers.numbers (Tm Nil (nat trees) (universe trees)) (extends_extends c.in_ok-number.ensures.extends e.extends) ((c.in_ok-numbers.ensures.typed Nil ctx).0) in
     let number = says_later _ _ c.in_ok-number.number (Tm Nil (zero trees) (nat trees)) e.extends (c.in_ok-number.ensures.typed Nil number_ctx) in
-    (subst (λ (found : Option Typed). MatchOption found (Unit {0}) (IsTypedClosed c.typed_of.new.book)) c.in-Some.is e.typed, (nat trees, universe trees, numbers), (zero trees, nat trees, number))
+    (e.typed, (nat trees, universe trees, numbers), (zero trees, nat trees, number))
 
 pub loop-preserved : goal.loop-preserved
 loop-preserved c =
     let (typed, numbers, number) = c.loop.invariant in
     let e = c.in_ok-next.ensures in
-    (subst (λ (found : Option Typed). MatchOption found (Unit {0}) (IsTypedClosed c.applied_to_both.new.book)) c.in-Some-2.is e.typed, term_later _ _ c.in_ok-numbers.numbers Nil e.extends numbers, term_later _ _ c.in_ok-number.number Nil e.extends number)
+    (subst (λ (found : Option Typed). MatchOption found (Unit {0}) (IsTypedClosed c.applied_to_both.new.book)) c.in-Some.is e.typed, term_later _ _ c.in_ok-numbers.numbers Nil e.extends numbers, term_later _ _ c.in_ok-number.number Nil e.extends number)

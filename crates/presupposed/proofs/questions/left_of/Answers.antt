@@ -2,9 +2,9 @@ use Rattle.presupposed.proofs.LabelLaws.{left_behind}
 use Rattle.presupposed.proofs.questions.left_of.Goals as goal
 
 pub answer-requires-clause-stands : goal.answer-requires-clause-stands
-answer-requires-clause-stands g c =
+answer-requires-clause-stands c =
     let (left, right, (J, says, is)) = c.requires in
     (left, (J, says, left_behind J left right is))
 
 pub returns-clause-typed : goal.returns-clause-typed
-returns-clause-typed g c = λ left right equates. let (J, says, is) = equates in c.in_ok-answer.ensures.found left (J, says, left_behind J left right is)
+returns-clause-typed c = λ left right equates. let (J, says, is) = equates in c.in_ok-answer.ensures.found left (J, says, left_behind J left right is)

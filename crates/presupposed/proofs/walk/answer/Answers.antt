@@ -1,15 +1,14 @@
-use Rattle.std.proofs.Common.{◌++◌, [], ◌∷◌, ◌∙◌, refl, ap, subst}
+use Rattle.std.proofs.Common.{◌++◌, [], ◌∷◌, ◌∙◌, refl, ap}
 use Rattle.literal_types.proofs.GrowthLaws.{extends_extends}
 use Rattle.literal_types.proofs.WaitLaws.{none_left}
 use Rattle.presupposed.specs.declared.tasks.Task.TheVariants as task
 use Rattle.presupposed.specs.declared.walk.Search.{Search}
-use Rattle.presupposed.specs.Walks.{Comes}
 use Rattle.presupposed.proofs.LoopLaws.{all_found, begun, next_less, next_task}
 use Rattle.presupposed.proofs.TaskLaws.{grown_same}
 use Rattle.presupposed.proofs.walk.answer.Goals as goal
 
 pub loop-task-init : goal.loop-task-init
-loop-task-init g c = record {
+loop-task-init c = record {
   extends = grown_same c.args.book.now;
   goes = λ J stands.
       begun c.args.book.now (record { alloc = c.args.alloc; tasks = c.push.new.self; memory = c.new-2.result; found = c.args.question.node }) c.args.question
@@ -17,7 +16,7 @@ loop-task-init g c = record {
 }
 
 pub step-requires : goal.step-requires
-step-requires g c =
+step-requires c =
     let (J, stands) = c.requires.stands in
     let l = c.loop-task in
     let left : Search = record { alloc = l.search.alloc; tasks = c.pop.new.self; memory = l.search.memory; found = l.search.found } in
@@ -25,37 +24,27 @@ step-requires g c =
     (c.args.question, I, J, leads, does)
 
 pub returns-in_err-step-clause-extends : goal.returns-in_err-step-clause-extends
-returns-in_err-step-clause-extends g c = extends_extends c.loop-task.invariant.extends c.in_err-step.ensures.extends
+returns-in_err-step-clause-extends c = extends_extends c.loop-task.invariant.extends c.in_err-step.ensures.extends
 
 pub loop-task-smaller : goal.loop-task-smaller
-loop-task-smaller g c =
+loop-task-smaller c =
     let l = c.loop-task in
     next_less l.search (record { alloc = l.search.alloc; tasks = c.pop.new.self; memory = l.search.memory; found = l.search.found }) c.step.new.self c.in-Some.task c.in-Some.ensures.items c.in_ok-step.ensures.less
 
 pub loop-task-preserved : goal.loop-task-preserved
-loop-task-preserved g c = record {
+loop-task-preserved c = record {
   extends = extends_extends c.loop-task.invariant.extends c.in_ok-step.ensures.extends;
   goes = λ J stands.
       let l = c.loop-task in
       let left : Search = record { alloc = l.search.alloc; tasks = c.pop.new.self; memory = l.search.memory; found = l.search.found } in
       let (I, leads, does) = next_task l.book l.search left c.args.question c.in-Some.task J c.in-Some.ensures.items refl refl (l.invariant.goes J stands) in
-      subst (λ n. Comes (g.R.RightSides.has c.args.rights.now) c.step.new.book c.step.new.self c.args.question n J) c.in-Moved.is (c.in_ok-step.ensures.goes c.args.question I J leads does);
+      c.in_ok-step.ensures.goes c.args.question I J leads does;
 }
 
-pub returns-in-Wanting-clause-extends : goal.returns-in-Wanting-clause-extends
-returns-in-Wanting-clause-extends g c = extends_extends c.loop-task.invariant.extends c.in_ok-step.ensures.extends
-
-pub returns-in-Wanting-clause-found : goal.returns-in-Wanting-clause-found
-returns-in-Wanting-clause-found g c = λ J stands.
-    let l = c.loop-task in
-    let left : Search = record { alloc = l.search.alloc; tasks = c.pop.new.self; memory = l.search.memory; found = l.search.found } in
-    let (I, leads, does) = next_task l.book l.search left c.args.question c.in-Some.task J c.in-Some.ensures.items refl refl (l.invariant.goes J stands) in
-    subst (λ n. Comes (g.R.RightSides.has c.args.rights.now) c.step.new.book c.step.new.self c.args.question n J) c.in-Wanting.is (c.in_ok-step.ensures.goes c.args.question I J leads does)
-
 pub returns-clause-extends : goal.returns-clause-extends
-returns-clause-extends g c = c.loop-task.invariant.extends
+returns-clause-extends c = c.loop-task.invariant.extends
 
 pub returns-clause-found : goal.returns-clause-found
-returns-clause-found g c = λ J stands.
+returns-clause-found c = λ J stands.
     let l = c.loop-task in
     all_found l.book l.search c.args.question J (none_left l.search.tasks.items l.search.tasks.len l.search.tasks.ok.0 c.in_default.ensures.cases.0) (l.invariant.goes J stands)

@@ -3,7 +3,7 @@ use Rattle.presupposed.proofs.LoopLaws.{Going}
 use Rattle.presupposed.proofs.walk.answer.Given as goal
 
 abbrev pub invariant-loop-task : goal.invariant-loop-task
-invariant-loop-task g l = Going l.initial.book l.book l.search l.fn.question
+invariant-loop-task l = Going l.initial.book l.book l.search l.fn.question
 
 abbrev pub decreases-loop-task : goal.decreases-loop-task
-decreases-loop-task g l = to_do l.search
+decreases-loop-task l = to_do l.search

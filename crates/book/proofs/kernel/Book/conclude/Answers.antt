@@ -16,19 +16,19 @@ invariant_of-self c = sound-kept (things c.self.inside.rows) (things c.concluded
 pub returns-in_err-claim-clause-extends : goal.returns-in_err-claim-clause-extends
 returns-in_err-claim-clause-extends c = extends-along _ _ _ c.self.view_is c.concluded.ensures.kept (grows-equal c.self.inside.nodes.rows c.self.inside.nodes.rows refl)
 
-pub node_words-words-requires-clause-count : goal.node_words-words-requires-clause-count
-node_words-words-requires-clause-count c =
+pub spell_node-requires-clause-count : goal.spell_node-requires-clause-count
+spell_node-requires-clause-count c =
     let b = c.args.self.now in
     let step = c.args.step.now in
     ap length c.as_slice-parts.ensures.value
     ∙ (use-counts (book_means b) (book_concludes b) step.rule step.parts step.premises c.requires.right.0 c.requires.right.1).0
 
-pub node_words-words-requires-clause-few : goal.node_words-words-requires-clause-few
-node_words-words-requires-clause-few c =
+pub spell_node-requires-clause-few : goal.spell_node-requires-clause-few
+spell_node-requires-clause-few c =
     let b = c.args.self.now in
     let step = c.args.step.now in
     let counts = use-counts (book_means b) (book_concludes b) step.rule step.parts step.premises c.requires.right.0 c.requires.right.1 in
-    omega (arith, ap length c.as_slice-parts.ensures.value, ap length c.as_slice.ensures.value, counts.0, counts.1, few_cells step.rule)
+    omega (arith, ap length c.as_slice-parts.ensures.value, ap length c.as_slice-premises.ensures.value, counts.0, counts.1, few_cells step.rule)
 
 pub invariant_of-self-in_err-at : goal.invariant_of-self-in_err-at
 invariant_of-self-in_err-at c =
@@ -45,7 +45,7 @@ returns-in_err-at-clause-covered c enough =
     let count = most_rows c.args.step.now.rule in
     let spare = ap (λ (d : Contents). d.spare) c.self.view_is in
     let here : count ≤ spare_of (rows_spare c.self.inside.rows) c.self.inside.nodes = omega (arith, spare, enough) in
-    let no = c.in_err-at.ensures.succeeds (node-covered (rows_spare c.self.inside.rows) count (length c.as_slice-2.result.now) c.self.inside.nodes (some_rows c.args.step.now.rule) here c.as_slice-2.ensures.few) in
+    let no = c.in_err-at.ensures.succeeds (node-covered (rows_spare c.self.inside.rows) count (length c.as_slice.result.now) c.self.inside.nodes (some_rows c.args.step.now.rule) here c.as_slice.ensures.few) in
     cc
 
 pub returns-clause-spends : goal.returns-clause-spends
@@ -53,7 +53,7 @@ returns-clause-spends c =
     let rule = c.args.step.now.rule in
     let left = rows_spare c.concluded.new.maker in
     let spare = ap (λ (d : Contents). d.spare) c.self.view_is in
-    let spent = spent_once (rows_spare c.self.inside.rows) left (most_rows rule) (length c.as_slice-2.result.now) c.self.inside.nodes c.intern.new.self (some_rows rule) c.concluded.ensures.spends c.as_slice-2.ensures.few c.intern.ensures.spent in
+    let spent = spent_once (rows_spare c.self.inside.rows) left (most_rows rule) (length c.as_slice.result.now) c.self.inside.nodes c.intern.new.self (some_rows rule) c.concluded.ensures.spends c.as_slice.ensures.few c.intern.ensures.spent in
     subst (λ n. n ≤ spare_of left c.intern.new.self + most_rows rule) spare spent
 
 pub invariant_of-self-2 : goal.invariant_of-self-2
@@ -61,11 +61,11 @@ invariant_of-self-2 c =
     let nodes = c.self.inside.nodes.rows in
     let g = rows_mean c.concluded.new.maker in
     let step = c.args.step.now in
-    let new = right-concluded _ _ c.self.view_is g c.concluded.ensures.kept step.rule step.parts step.premises c.requires.right.0 c.requires.right.1 c.as_slice-parts.result.now c.as_slice.result.now c.as_slice-parts.ensures.value c.as_slice.ensures.value c.in_ok-claim.claim c.in_ok-claim.ensures.claim c.node_words-words.result c.as_slice-2.result.now c.node_words-words.ensures c.as_slice-2.ensures.value in
+    let new = right-concluded _ _ c.self.view_is g c.concluded.ensures.kept step.rule step.parts step.premises c.requires.right.0 c.requires.right.1 c.as_slice-parts.result.now c.as_slice-premises.result.now c.as_slice-parts.ensures.value c.as_slice-premises.ensures.value c.in_ok-claim.claim c.in_ok-claim.ensures.claim c.spell_node.new.words c.as_slice.result.now c.spell_node.ensures c.as_slice.ensures.value in
     let sound = sound-kept (things c.self.inside.rows) (things c.concluded.new.maker) nodes c.self.inside.sides c.concluded.ensures.kept c.self.invariant in
-    record { right = nodes-added g nodes c.as_slice-2.result.now c.intern.new.self.rows sound.right new c.in_ok-at.ensures.new; keeps = sound.keeps }
+    record { right = nodes-added g nodes c.as_slice.result.now c.intern.new.self.rows sound.right new c.in_ok-at.ensures.new; keeps = sound.keeps }
 
 pub returns-clause-extends : goal.returns-clause-extends
 returns-clause-extends c =
     extends-along _ _ _ c.self.view_is c.concluded.ensures.kept
-    (interned-grows c.self.inside.nodes.rows c.as_slice-2.result.now c.intern.new.self.rows c.in_ok-at.ensures.new)
+    (interned-grows c.self.inside.nodes.rows c.as_slice.result.now c.intern.new.self.rows c.in_ok-at.ensures.new)

@@ -9,14 +9,25 @@ use Rattle.presupposed.proofs.FillLaws.{fills_more}
 use Rattle.presupposed.proofs.StepLaws.{found_same}
 use Rattle.presupposed.proofs.walk.Search.step.Goals as goal
 
-pub returns-in-Ask-clause-goes : goal.returns-in-Ask-clause-goes
-returns-in-Ask-clause-goes g c = λ top I J leads does.
+pub returns-in_ok-ask-in-Ask-clause-goes : goal.returns-in_ok-ask-in-Ask-clause-goes
+returns-in_ok-ask-in-Ask-clause-goes c = λ top I J leads does.
     let a = c.args in
     let (K, says, (way, stands)) = subst (λ t. DoesNext a.book.now a.self.now top t I) c.in-Ask.is does in
     c.in_ok-ask-in-Ask.ensures.goes top I J leads way stands
 
+pub unfold-requires : goal.unfold-requires
+unfold-requires c =
+    let a = c.args in
+    let (top, I, J, leads, does) = c.requires in
+    (top, I, J, leads, subst (λ t. DoesNext a.book.now a.self.now top t I) c.in-Unfold.is does)
+
+pub returns-in_ok-unfold-in-Unfold-clause-goes : goal.returns-in_ok-unfold-in-Unfold-clause-goes
+returns-in_ok-unfold-in-Unfold-clause-goes c = λ top I J leads does.
+    let a = c.args in
+    c.in_ok-unfold-in-Unfold.ensures.goes top I J leads (subst (λ t. DoesNext a.book.now a.self.now top t I) c.in-Unfold.is does)
+
 pub fill-requires : goal.fill-requires
-fill-requires g c =
+fill-requires c =
     let a = c.args in
     let f = c.in-Fill in
     let (top, I, J, leads, does) = c.requires in
@@ -24,14 +35,14 @@ fill-requires g c =
     (top, I, J, leads, way, subst (λ few. Fills a.book.now f.question f.entry few I) (sym c.push-in-Fill.ensures) (fills_more a.book.now f.question f.entry f.few K I a.self.now.found awaits says))
 
 pub returns-in_ok-fill-in-Fill-clause-goes : goal.returns-in_ok-fill-in-Fill-clause-goes
-returns-in_ok-fill-in-Fill-clause-goes g c = λ top I J leads does.
+returns-in_ok-fill-in-Fill-clause-goes c = λ top I J leads does.
     let a = c.args in
     let f = c.in-Fill in
     let (K, says, (way, awaits)) = subst (λ t. DoesNext a.book.now a.self.now top t I) f.is does in
     c.in_ok-fill-in-Fill.ensures.goes top I J leads way (subst (λ few. Fills a.book.now f.question f.entry few I) (sym c.push-in-Fill.ensures) (fills_more a.book.now f.question f.entry f.few K I a.self.now.found awaits says))
 
 pub returns-in_ok-push-in-PartIn-2-clause-goes : goal.returns-in_ok-push-in-PartIn-2-clause-goes
-returns-in_ok-push-in-PartIn-2-clause-goes g c = λ top I J leads does.
+returns-in_ok-push-in-PartIn-2-clause-goes c = λ top I J leads does.
     let a = c.args in
     let p = c.in-PartIn in
     let (K, says, (G, T, is, way, stands, part, e)) = subst (λ t. DoesNext a.book.now a.self.now top t I) p.is does in
@@ -48,7 +59,7 @@ returns-in_ok-push-in-PartIn-2-clause-goes g c = λ top I J leads does.
     )
 
 pub returns-in_ok-self-in-PartOf-clause-goes : goal.returns-in_ok-self-in-PartOf-clause-goes
-returns-in_ok-self-in-PartOf-clause-goes g c = λ top I J leads does.
+returns-in_ok-self-in-PartOf-clause-goes c = λ top I J leads does.
     let a = c.args in
     let p = c.in-PartOf in
     let (K, says, (G, T, is, ty, part, e)) = subst (λ t. DoesNext a.book.now a.self.now top t I) p.is does in

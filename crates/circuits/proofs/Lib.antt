@@ -1,0 +1,4 @@
+pub mod FixLaws
+pub mod EvaluateLaws
+pub mod SpreadLaws
+pub mod PlaceLaws

@@ -1,0 +1,3 @@
+pub mod Circuits
+pub mod Branches
+pub mod Evaluations
