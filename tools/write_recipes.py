@@ -48,6 +48,39 @@ CRATES = {
         "open_glue", "open_binder_u", "open_pathp_u", "open_glue_type_u", "up_var", "up_name",
         "up_face", "fits_pi", "fits_sig", "anchor", "anchor_conv", "beta_asks", "beta_answers",
     ],
+    "way_rules": [
+        "way_begun", "way_home", "equal_after", "equal_after_fits", "fits_joined", "fits_under",
+        "term_fitted", "equal_at_own", "term_at_left", "type_same", "way_begun_type",
+        "small_equal", "type_turned",
+    ],
+    "head_rules": [
+        "fire_beta", "app_stays", "natrec_parts", "natrec_zero", "natrec_suc", "natrec_stays",
+        "fst_pair", "snd_pair", "fst_stays", "snd_stays", "suc_normal",
+    ],
+    "kan_rules": [
+        "fire_path", "papp_stays", "path_at_start", "path_at_end", "comp_line", "comp_base",
+        "unglued", "unglue_stays", "unglue_glue", "glue_parts", "comp_nat_zero", "comp_nat_suc",
+        "comp_nat_sides_zero", "comp_nat_sides_suc", "base_at_start", "predecessor",
+        "predecessor_typed", "empty_type", "empty_small", "empty_term", "unglue_other",
+    ],
+    "normal_rules": [
+        "entered", "entered_home", "pi_normal", "sig_normal", "pi_small_normal",
+        "sig_small_normal", "small_normal", "lam_normal", "lams_equal", "app_normal", "pair_normal",
+        "natrec_fits", "natrec_normal", "papp_normal", "plam_normal", "path_normal",
+        "path_small_normal",
+    ],
+    "side_rules": [
+        "nothing_type", "nothing_term", "side_type", "side_term", "side_line", "glue_type_normal",
+        "glue_small_normal", "glue_normal", "unglue_normal", "comp_normal",
+    ],
+    "conversion_rules": [
+        "entered_along", "pi_equal", "sig_equal", "pi_small_equal", "sig_small_equal",
+        "natrec_equal", "met", "joined", "joined_fits", "types_joined", "equal_fitted",
+        "suc_equal", "app_equal", "fst_equal", "snd_equal", "at_variable", "lam_left", "lam_right",
+        "at_first", "pair_left", "pair_right", "ends_fit", "path_equal", "path_small_equal",
+        "papp_equal", "papp_moved", "at_name", "plam_left", "plam_right", "absurd_types",
+        "absurd_terms",
+    ],
     "presupposed_tests": ["conversions", "pushed_entry", "made_and_used", "equal_numbers"],
     "book_tests": ["two", "successor", "constant", "twice", "variables"],
     "kan_tests": [
@@ -70,7 +103,11 @@ EARLIER |= {"eqv": EQUIVALENCE_PARTS}
 
 # The crates whose tables read the parts of a recipe from its premises, where these name them, so
 # that a call passes the others alone, which come first.
-READ = {"typing_rules", "literal_types", "literal_terms", "inversion_rules"}
+READ = {
+    "typing_rules", "literal_types", "literal_terms", "inversion_rules", "way_rules",
+    "head_rules", "kan_rules", "normal_rules", "conversion_rules",
+    "side_rules",
+}
 
 # The crates whose tables read things from what earlier nodes conclude, which takes fewer rows.
 LOOK = {"kan_types", "kan_glue", "kan_universe"}
