@@ -81,6 +81,7 @@ CRATES = {
         "papp_equal", "papp_moved", "at_name", "plam_left", "plam_right", "absurd_types",
         "absurd_terms",
     ],
+    "presupposed_tests": ["conversions", "pushed_entry", "made_and_used", "equal_numbers"],
     "book_tests": ["two", "successor", "constant", "twice", "variables"],
     "kan_tests": [
         "fill_faces", "fill_lines", "contr_variable", "pres_numbers", "ext_variable",
