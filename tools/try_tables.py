@@ -16,6 +16,7 @@ import tempfile
 ROOT = pathlib.Path(__file__).resolve().parent.parent
 TABLES = {
     "row_cases": "rows.txt",
+    "normality_cases": "normality.txt",
     "file_cases": "files.txt",
     "grammar_cases": "grammar.txt",
     "resolver_cases": "resolver.txt",
