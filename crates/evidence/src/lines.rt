@@ -1,0 +1,267 @@
+//! Evidence, with the lines that show it.
+
+ghost use Rattle.std.specs.Prelude.{◌≡◌, ◌↔◌, IfOk, IsSome, IsTrue, List, Some};
+ghost use Rattle.trees.specs.Judgements.{Judgement};
+ghost use Rattle.rows.specs.Views.{IsContext, IsTree};
+ghost use Rattle.rows.specs.declared.views.TermId.{TermId};
+ghost use Rattle.side_conditions.specs.Contexts.{context_of};
+ghost use Rattle.side_conditions.specs.Shapes.{tree_of};
+ghost use Rattle.normal_parts.specs.Normal.{Begins};
+ghost use Rattle.book.specs.Shown.{book_means};
+ghost use Rattle.book_writer.specs.Written.{concluded_by};
+ghost use Rattle.evidence.specs.Sides.{IsPlace};
+ghost use Rattle.evidence.specs.Told.{AreShown, AreTwo, IsNormalType, IsOf, IsTypeShown};
+ghost use Rattle.evidence.specs.Told.{IsUniverse};
+ghost use Rattle.evidence.specs.declared.lines.Evidence.{Evidence};
+
+use crate::face_lines::face_line;
+use crate::openings::begins_with;
+use crate::sides::{Place, Sort, append_line, is_normal_at, place_of, right_side};
+use book::{Book, NodeId};
+use book_writer::write;
+use compare::Comparison;
+use rows::{CtxId, TermId};
+use std::alloc::{AllocError, Global};
+use theory::{Op, PartKind};
+
+/// Evidence of a refusal.
+#[derive(Drop, Debug)]
+pub struct Evidence {
+    /// The lines that show it, each with its newline.
+    pub lines: String,
+    /// The bytes of the derivation that has it.
+    pub bytes: Vec<u8>,
+}
+
+/// Lines, and a file with these roots. None if the lines are no UTF-8, which never comes.
+fn with_file(
+    alloc: Global,
+    book: &Book,
+    lines: Vec<u8>,
+    roots: &[NodeId],
+) -> Result<Option<Evidence>, AllocError>
+    requires { IsSome (concluded_by book.now roots.now) }
+    ensures { (Js : List Judgement) → concluded_by book.now roots.now ≡ Some Js →
+        IfOk result (λ found. (e : Evidence) → found ≡ Some e → IsOf lines.items Js e) }
+{
+    let Ok(lines) = String::from_utf8(lines) else {
+        return Ok(None);
+    };
+    let mut bytes = Vec::new(alloc);
+    let _rows = write(book, alloc, roots, &mut bytes)?;
+    Ok(Some(Evidence { lines, bytes }))
+}
+
+/// The normal right side of an equation of types, at a place.
+fn normal_type(
+    alloc: Global,
+    book: &Book,
+    place: &Place,
+    equation: NodeId,
+) -> Result<Option<TermId>, AllocError>
+    requires { IsPlace (context_of (book_means book.now place.now.ctx.0)) place.now }
+    ensures { IfOk result (λ found. (right : TermId) → found ≡ Some right →
+        IsNormalType book.now (context_of (book_means book.now place.now.ctx.0))
+        equation.0 right.0) }
+{
+    let Some(side) = right_side(book, equation) else {
+        return Ok(None);
+    };
+    if side.sort != Sort::Types || side.ctx != place.ctx {
+        return Ok(None);
+    }
+    if !is_normal_at(alloc, book, place, side.right)? {
+        return Ok(None);
+    }
+    Ok(Some(side.right))
+}
+
+/// The evidence that a type is equal to a normal one, which does not begin with this operator, if
+/// one is named.
+fn type_at(
+    alloc: Global,
+    book: &Book,
+    place: &Place,
+    unwanted: Option<Op>,
+    equation: NodeId,
+) -> Result<Option<Evidence>, AllocError>
+    requires { IsPlace (context_of (book_means book.now place.now.ctx.0)) place.now }
+    ensures { IfOk result (λ found. (e : Evidence) → found ≡ Some e → IsTypeShown unwanted e) }
+{
+    let Some(right) = normal_type(alloc, book, place, equation)? else {
+        return Ok(None);
+    };
+    if let Some(op) = unwanted {
+        if begins_with(alloc, book, op, right)? {
+            return Ok(None);
+        }
+    }
+    let mut lines = Vec::new(alloc);
+    append_line(alloc, book, place, "type: ", right, &mut lines)?;
+    Ok(with_file(alloc, book, lines, &[equation])?)
+}
+
+/// The evidence that a type is the universe, at a place.
+fn universe_at(
+    alloc: Global,
+    book: &Book,
+    place: &Place,
+    equation: NodeId,
+) -> Result<Option<Evidence>, AllocError>
+    requires { IsPlace (context_of (book_means book.now place.now.ctx.0)) place.now }
+    ensures { IfOk result (λ found. (e : Evidence) → found ≡ Some e → IsUniverse e) }
+{
+    let Some(right) = normal_type(alloc, book, place, equation)? else {
+        return Ok(None);
+    };
+    if !begins_with(alloc, book, Op::U, right)? {
+        return Ok(None);
+    }
+    Ok(with_file(alloc, book, Vec::new(alloc), &[equation])?)
+}
+
+/// The evidence that a type is the universe, of `G >> W = U`. None where that is not what the node
+/// concludes.
+///
+/// # Errors
+/// Only where memory runs out.
+pub fn of_universe(
+    alloc: Global,
+    book: &mut Book,
+    equation: NodeId,
+) -> Result<Option<Evidence>, AllocError>
+    ensures { IfOk result (λ found. (e : Evidence) → found ≡ Some e → IsUniverse e) }
+{
+    let Some(side) = right_side(book, equation) else {
+        return Ok(None);
+    };
+    match place_of(alloc, book, side.ctx)? {
+        Some(place) => Ok(universe_at(alloc, book, &place, equation)?),
+        None => Ok(None),
+    }
+}
+
+/// The evidence that a type is equal to a normal one, of `G >> T = N`, where N does not begin with
+/// this operator, if one is named. None where that is not what the node concludes.
+///
+/// # Errors
+/// Only where memory runs out.
+pub fn of_type(
+    alloc: Global,
+    book: &mut Book,
+    unwanted: Option<Op>,
+    equation: NodeId,
+) -> Result<Option<Evidence>, AllocError>
+    ensures { IfOk result (λ found. (e : Evidence) → found ≡ Some e → IsTypeShown unwanted e) }
+{
+    let Some(side) = right_side(book, equation) else {
+        return Ok(None);
+    };
+    match place_of(alloc, book, side.ctx)? {
+        Some(place) => Ok(type_at(alloc, book, &place, unwanted, equation)?),
+        None => Ok(None),
+    }
+}
+
+/// Whether two rows of contexts mean the same.
+fn same_context(alloc: Global, book: &Book, left: CtxId, right: CtxId) -> Result<bool, AllocError>
+    requires left { IsContext (book_means book.now left.0) }
+    requires right { IsContext (book_means book.now right.0) }
+    ensures { let f = book_means book.now in
+        IfOk result (λ same. IsTrue same → f left.0 ≡ f right.0) }
+{
+    let mut comparison = Comparison::new(alloc);
+    Ok(comparison.same(book, PartKind::Context, left.0, right.0)?)
+}
+
+/// The normal right sides of two equations of one sort, at a place, if they differ.
+fn two_sides(
+    alloc: Global,
+    book: &Book,
+    place: &Place,
+    found: NodeId,
+    wanted: NodeId,
+) -> Result<Option<(TermId, TermId)>, AllocError>
+    requires { IsPlace (context_of (book_means book.now place.now.ctx.0)) place.now }
+    ensures { IfOk result (λ both. (l r : TermId) → both ≡ Some (l, r) →
+        AreTwo book.now (context_of (book_means book.now place.now.ctx.0))
+        found.0 wanted.0 l.0 r.0) }
+{
+    let Some(left) = right_side(book, found) else {
+        return Ok(None);
+    };
+    let Some(right) = right_side(book, wanted) else {
+        return Ok(None);
+    };
+    if left.sort != right.sort || left.ctx != place.ctx {
+        return Ok(None);
+    }
+    if !same_context(alloc, book, right.ctx, place.ctx)? {
+        return Ok(None);
+    }
+    if !is_normal_at(alloc, book, place, left.right)? {
+        return Ok(None);
+    }
+    if !is_normal_at(alloc, book, place, right.right)? {
+        return Ok(None);
+    }
+    if book.same_tree(left.right, right.right)? {
+        return Ok(None);
+    }
+    Ok(Some((left.right, right.right)))
+}
+
+/// The evidence that two types, or two terms, are equal to two normal ones that differ, at a place.
+fn two_at(
+    alloc: Global,
+    book: &Book,
+    place: &Place,
+    face: Option<TermId>,
+    equations: [NodeId; 2],
+) -> Result<Option<Evidence>, AllocError>
+    requires context { IsContext (book_means book.now place.now.ctx.0) }
+    requires place { IsPlace (context_of (book_means book.now place.now.ctx.0)) place.now }
+    ensures { IfOk result (λ found. (e : Evidence) → found ≡ Some e → AreShown face e) }
+{
+    let [found, wanted] = equations;
+    let Some((left, right)) = two_sides(alloc, book, place, found, wanted)? else {
+        return Ok(None);
+    };
+    let mut lines = Vec::new(alloc);
+    if let Some(face) = face {
+        if !book.is_of_kind(face.0, PartKind::Term) {
+            return Ok(None);
+        }
+        let Some(line) = face_line(alloc, book, place.ctx, face)? else {
+            return Ok(None);
+        };
+        lines.extend_from_slice(line.as_bytes())?;
+    }
+    append_line(alloc, book, place, "found: ", left, &mut lines)?;
+    append_line(alloc, book, place, "wanted: ", right, &mut lines)?;
+    Ok(with_file(alloc, book, lines, &[found, wanted])?)
+}
+
+/// The evidence that two types, or two terms, are equal to two normal ones that differ: what was
+/// found, and what is wanted, on a face if one is named. None where that is not what the nodes
+/// conclude.
+///
+/// # Errors
+/// Only where memory runs out.
+pub fn differing(
+    alloc: Global,
+    book: &mut Book,
+    face: Option<TermId>,
+    found: NodeId,
+    wanted: NodeId,
+) -> Result<Option<Evidence>, AllocError>
+    ensures { IfOk result (λ told. (e : Evidence) → told ≡ Some e → AreShown face e) }
+{
+    let Some(side) = right_side(book, found) else {
+        return Ok(None);
+    };
+    match place_of(alloc, book, side.ctx)? {
+        Some(place) => Ok(two_at(alloc, book, &place, face, [found, wanted])?),
+        None => Ok(None),
+    }
+}
