@@ -85,6 +85,7 @@ CRATES = {
         "cover_types", "cover_terms", "cover_lines", "comp_equal", "glue_type_equal",
         "glue_small_equal", "unglue_equal", "glue_equal", "at_face",
     ],
+    "checking_rules": ["equiv_type"],
     "presupposed_tests": ["conversions", "pushed_entry", "made_and_used", "equal_numbers"],
     "book_tests": ["two", "successor", "constant", "twice", "variables"],
     "kan_tests": [
@@ -110,7 +111,7 @@ EARLIER |= {"eqv": EQUIVALENCE_PARTS}
 READ = {
     "typing_rules", "literal_types", "literal_terms", "inversion_rules", "way_rules",
     "head_rules", "kan_rules", "normal_rules", "conversion_rules",
-    "side_rules", "face_rules",
+    "side_rules", "face_rules", "checking_rules",
 }
 
 # The crates whose tables read things from what earlier nodes conclude, which takes fewer rows.
