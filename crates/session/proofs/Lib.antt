@@ -1,6 +1,4 @@
 pub mod WriteLemmas
-pub mod GivenLaws
-pub mod NameLaws
 pub mod RootLaws
 pub mod ModuleLaws
 pub mod ExclusionLemmas
@@ -8,7 +6,10 @@ pub mod AnswerLaws
 pub mod LoadedLaws
 pub mod FoundLaws
 pub mod ReplayLaws
-pub mod RunLemmas
 pub mod PlaceLaws
+pub mod NodeLaws
+pub mod JobLaws
 pub mod CheckLaws
+pub mod NormalLaws
+pub mod RunLemmas
 pub mod OneCheckLaws

@@ -1,8 +1,9 @@
 -- Definitions of several modules, by their places among all.
-use Rattle.std.proofs.Common.{◌≡◌, ◌<◌, ◌≤◌, ◌+◌, ◌-◌, ℕ, zero, suc, List, [], ◌∷◌, ◌++◌, map, length, drop, slice_get, slice_index_or, refl, sym, ◌∙◌, ap, subst, arith, Option, Some, None, inl, inr}
+use Rattle.std.proofs.Common.{◌≡◌, ◌<◌, ◌≤◌, ◌+◌, ◌-◌, ℕ, zero, suc, List, [], ◌∷◌, ◌++◌, map, length, drop, slice_get, slice_index_or, refl, sym, ◌∙◌, ap, subst, arith, Option, Some, None, inl, inr, Bool, false, IsTrue, ◌↔◌, true≢false}
 use Rattle.std.specs.List.{flat_map}
 use Rattle.std.specs.Option.{option_map}
 use Rattle.std.proofs.lemmas.Bool.{cases_lt}
+use Rattle.std.proofs.lemmas.Option.{slice_get_past}
 use Rattle.std.proofs.lemmas.List.{length-append, length-map}
 use Rattle.layout_lexer.specs.declared.token.Span.{Span}
 use Rattle.syntax.specs.View.{def_items}
@@ -16,12 +17,12 @@ use Rattle.resolved_forms.proofs.Spelling.{names_written}
 use Rattle.resolver.specs.declared.resolving.Codes.{Codes}
 use Rattle.resolver.specs.Resolved.{defs_in}
 use Rattle.module_texts.specs.declared.text.ModuleText.{ModuleText}
-use Rattle.module_texts.specs.Texts.{Text, text_of}
+use Rattle.module_texts.specs.Texts.{Text, text_of, name_at as name_in}
 use Rattle.linking.specs.Modules.{names_in}
 use Rattle.linking.specs.Linked.{IsLinked}
 use Rattle.direct.specs.Known.{Known}
 use Rattle.direct.specs.Direct.{def_typing, other_place, place_after}
-use Rattle.session.specs.Checks.{Place, places, places_in}
+use Rattle.session.specs.Places.{Named, called, names, places, places_in}
 
 -- lists
 
@@ -45,7 +46,7 @@ get_within [] k l = absurd (omega arith)
 get_within (x ∷ xs) zero l = (x, refl)
 get_within (x ∷ xs) (suc k) l = get_within xs k (omega arith)
 
-get_read : {A : Type 0} (xs : List A) (k : ℕ) (x : A) → k < length xs → x ≡ slice_index_or xs k x → slice_get xs k ≡ Some x
+pub get_read : {A : Type 0} (xs : List A) (k : ℕ) (x : A) → k < length xs → x ≡ slice_index_or xs k x → slice_get xs k ≡ Some x
 get_read [] k x l e = absurd (omega arith)
 get_read (y ∷ xs) zero x l e = ap Some (sym e)
 get_read (y ∷ xs) (suc k) x l e = get_read xs k x (omega arith) e
@@ -80,35 +81,35 @@ names_spelt x =
 pub count_in : (x : ModuleText) → length (def_items x.module.defs) ≡ length (places_in (text_of x))
 count_in x =
     sym (length-map (def_items x.module.defs) (λ d. (out-Def d).name)) ∙ sym (ap length (names_spelt x))
-    ∙ sym (length-map (names_in (text_of x)) (λ s. let p : Place = record { holder = text_of x; name = s } in p))
+    ∙ sym (length-map (names_in (text_of x)) (λ s. let p : Named = record { holder = text_of x; name = s } in p))
 
 -- those of all modules are named as their codes are
 
-name_at : Place → Span
+name_at : Named → Span
 name_at p = p.name
 
-names_of_one : (x : Text) (ss : List Span) → map (λ (p : Place). p.name) (map (λ s. record { holder = x; name = s }) ss) ≡ ss
+names_of_one : (x : Text) (ss : List Span) → map (λ (p : Named). p.name) (map (λ s. record { holder = x; name = s }) ss) ≡ ss
 names_of_one x [] = refl
 names_of_one x (s ∷ ss) = ap (λ ns. s ∷ ns) (names_of_one x ss)
 
-names_of_places : (xs : List Text) → map (λ (p : Place). p.name) (places xs) ≡ flat_map names_in xs
+names_of_places : (xs : List Text) → map (λ (p : Named). p.name) (places xs) ≡ flat_map names_in xs
 names_of_places [] = refl
 names_of_places (x ∷ xs) =
-    map_append (λ (p : Place). p.name) (places_in x) (places xs) ∙ ap (λ ns. ns ++ map (λ (p : Place). p.name) (places xs)) (names_of_one x (names_in x))
+    map_append (λ (p : Named). p.name) (places_in x) (places xs) ∙ ap (λ ns. ns ++ map (λ (p : Named). p.name) (places xs)) (names_of_one x (names_in x))
     ∙ ap (λ ns. names_in x ++ ns) (names_of_places xs)
 
 module _ (texts : List Text) (codes : Codes) (linked : IsLinked texts codes) where
   pub count_of_places : length (defs_in codes) ≡ length (places texts)
   count_of_places =
       sym (length-map (defs_in codes) (λ c. (out-CodeDef c).name)) ∙ ap length (linked.named ∙ sym (names_of_places texts))
-      ∙ length-map (places texts) (λ (p : Place). p.name)
+      ∙ length-map (places texts) (λ (p : Named). p.name)
 
-  pub name_of_place : (k : ℕ) (d : CodeDef) (at : Place) → k < length (defs_in codes) → d ≡ slice_index_or (defs_in codes) k d → slice_get (places texts) k ≡ Some at → at.name ≡ (out-CodeDef d).name
+  pub name_of_place : (k : ℕ) (d : CodeDef) (at : Named) → k < length (defs_in codes) → d ≡ slice_index_or (defs_in codes) k d → slice_get (places texts) k ≡ Some at → at.name ≡ (out-CodeDef d).name
   name_of_place k d at l is there =
       let of_code : slice_get (map (λ c. (out-CodeDef c).name) (defs_in codes)) k ≡ Some (out-CodeDef d).name =
       get_map (λ c. (out-CodeDef c).name) (defs_in codes) k ∙ ap (option_map (λ c. (out-CodeDef c).name)) (get_read (defs_in codes) k d l is) in
-      let of_place : slice_get (map (λ (p : Place). p.name) (places texts)) k ≡ Some at.name =
-      get_map (λ (p : Place). p.name) (places texts) k ∙ ap (option_map (λ (p : Place). p.name)) there in
+      let of_place : slice_get (map (λ (p : Named). p.name) (places texts)) k ≡ Some at.name =
+      get_map (λ (p : Named). p.name) (places texts) k ∙ ap (option_map (λ (p : Named). p.name)) there in
       let same : Some at.name ≡ Some (out-CodeDef d).name =
       sym of_place ∙ ap (λ ns. slice_get ns k) (names_of_places texts ∙ sym linked.named) ∙ of_code in
       cc
@@ -150,13 +151,13 @@ module _ (texts : List Text) (place number left count : ℕ) (x : Text) (looks :
         within = omega (arith, long, within, l, counted);
       }
 
-  pub looks_found : left < count → (at : Place) × (slice_get (places texts) place ≡ Some at) × (at.holder ≡ x)
+  pub looks_found : left < count → (at : Named) × (slice_get (places texts) place ≡ Some at) × (at.holder ≡ x)
   looks_found l =
-      let less : left < length (names_in x) = omega (arith, l, counted, length-map (names_in x) (λ s. let p : Place = record { holder = x; name = s } in p)) in
+      let less : left < length (names_in x) = omega (arith, l, counted, length-map (names_in x) (λ s. let p : Named = record { holder = x; name = s } in p)) in
       let found = get_within (names_in x) left less in (
         record { holder = x; name = found.0 },
         looks.same ∙ ap (λ ps. slice_get ps left) here ∙ get_front (places_in x) (places (drop (number + 1) texts)) left (omega (arith, l, counted))
-            ∙ get_map (λ s. record { holder = x; name = s }) (names_in x) left ∙ ap (option_map (λ s. let p : Place = record { holder = x; name = s } in p)) found.1,
+            ∙ get_map (λ s. record { holder = x; name = s }) (names_in x) left ∙ ap (option_map (λ s. let p : Named = record { holder = x; name = s } in p)) found.1,
         refl,
       )
 
@@ -173,3 +174,52 @@ inside_after ds (Some H) k rest e = later (other_place ds H) refl e
 pub other_inside : (ds : List CodeDef) (G : Known) (k : ℕ) → other_place ds G ≡ Some k → k < length ds
 other_inside [] G k e = absurd (cc e)
 other_inside (d ∷ ds) G k e = inside_after ds (def_typing d G) k (λ H j f. other_inside ds H j f) e
+
+-- what the definitions are called
+
+pub spelt_as : (texts : List Text) (codes : Codes) → IsLinked texts codes → (k : ℕ) (d : CodeDef) (at : Named) (x : ModuleText) (spelt : List ℕ) → k < length (defs_in codes) → d ≡ slice_index_or (defs_in codes) k d → slice_get (places texts) k ≡ Some at → at.holder ≡ text_of x
+    → spelt ≡ name_in x.bytes.items (out-CodeDef d).name → slice_get (names texts) k ≡ Some spelt
+spelt_as texts codes linked k d at x spelt l is there holder e =
+    let named = name_of_place texts codes linked k d at l is there in
+    let read : called at ≡ spelt = ap (λ (t : Text). name_in t.bytes at.name) holder ∙ ap (name_in x.bytes.items) named ∙ sym e in
+    get_map called (places texts) k ∙ ap (option_map called) there ∙ ap Some read
+
+-- whether it is the name
+pub is_the_name : (texts : List Text) (k : ℕ) (spelt name : List ℕ) (result : Bool) → slice_get (names texts) k ≡ Some spelt → IsTrue result ↔ (spelt ≡ name) → IsTrue result ↔ (slice_get (names texts) k ≡ Some name)
+is_the_name texts k spelt name result here both = (
+  λ yes. here ∙ ap Some (both.0 yes),
+  λ is. both.1 (let same : Some spelt ≡ Some name = sym here ∙ is in let e : spelt ≡ name = cc in e),
+)
+
+-- what is called so is a definition
+pub called_inside : (texts : List Text) (codes : Codes) → IsLinked texts codes → (k : ℕ) (name : List ℕ) → slice_get (names texts) k ≡ Some name → k < length (defs_in codes)
+called_inside texts codes linked k name is = elim (cases_lt k (length (defs_in codes))) [
+  | inl less ↦ less
+  | inr more ↦
+      let long : length (names texts) ≡ length (places texts) = length-map (places texts) called in
+      let count = count_of_places texts codes linked in
+      let past : slice_get (names texts) k ≡ None = slice_get_past (names texts) k (omega arith) in
+      let no_name : None ≡ Some name = sym past ∙ is in
+      absurd cc
+]
+
+-- none from a place on has the name
+abbrev pub NoneFrom : List Text → List ℕ → ℕ → Type 0
+NoneFrom texts name k = (j : ℕ) → k ≤ j → slice_get (names texts) j ≡ Some name → ⊥
+
+pub none_at_end : (texts : List Text) (codes : Codes) → IsLinked texts codes → (name : List ℕ) (k : ℕ) → k ≡ length (defs_in codes) → NoneFrom texts name k
+none_at_end texts codes linked name k end j l is =
+    let long : length (names texts) ≡ length (places texts) = length-map (places texts) called in
+    let count = count_of_places texts codes linked in
+    let past : slice_get (names texts) j ≡ None = slice_get_past (names texts) j (omega arith) in
+    let no_name : None ≡ Some name = sym past ∙ is in
+    cc
+
+pub none_before : (texts : List Text) (name : List ℕ) (k j : ℕ) (result : Bool) → j + 1 ≡ k → result ≡ false → IsTrue result ↔ (slice_get (names texts) j ≡ Some name) → NoneFrom texts name k → NoneFrom texts name j
+none_before texts name k j result next is both none i l there = elim (cases_lt j i) [
+  | inl less ↦ none i (omega arith) there
+  | inr more ↦
+      let same : i ≡ j = omega arith in
+      let here = subst (λ n. slice_get (names texts) n ≡ Some name) same there in
+      true≢false (sym (both.1 here) ∙ is)
+]

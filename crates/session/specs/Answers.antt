@@ -1,5 +1,5 @@
 -- What a command may answer, and what is then printed.
-use Rattle.std.specs.Prelude.{◌≡◌, ◌≢◌, ◌⊎◌, ℕ, List, length, None, Some}
+use Rattle.std.specs.Prelude.{◌≡◌, ◌≢◌, ◌⊎◌, ℕ, List, [], length, None, Some}
 use Rattle.std.specs.Prelude.{string_bytes, Option}
 use Rattle.host_io.specs.Files.{Held, HoldsAt}
 use Rattle.host_io.specs.Seen.{SeenFiles, SeenSource, SeenSink}
@@ -12,10 +12,17 @@ use Rattle.session.specs.declared.outcome.Status.{Status}
 use Rattle.session.specs.declared.outcome.Status.TheVariants as status
 use Rattle.session.specs.declared.outcome.Outcome.{Outcome}
 use Rattle.session.specs.declared.outcome.Outcome.TheVariants as outcome
-use Rattle.session.specs.Words.{Command, Check, Replay}
+use Rattle.command_words.specs.Words.{Command, Check, Replay, Normal}
 use Rattle.session.specs.Outcomes.{plain_text, status_of, IsCounted, StoresNothing}
 use Rattle.session.specs.Modules.{DifferAt, NotLoaded, NotResolved, Spells}
-use Rattle.session.specs.Checks.{MayCheck, MayLeave}
+use Rattle.module_texts.specs.Texts.{Text}
+use Rattle.resolver.specs.declared.resolving.Codes.{Codes}
+use Rattle.resolver.specs.Resolved.{defs_in}
+use Rattle.direct.specs.Direct.{other_place}
+use Rattle.session.specs.Loaded.{IsRead}
+use Rattle.session.specs.Jobs.{MayDo, MayLeave}
+use Rattle.session.specs.Checks.{CheckJob}
+use Rattle.session.specs.Normals.{NormalJob}
 use Rattle.session.specs.Writes.{WrittenWhole, CutOff}
 
 -- A text was printed whole, with its status, or a write failed and not all of it went out.
@@ -57,8 +64,10 @@ MayReplay held path (Some name) result = MayReplayOf held path name result
 
 -- when a command may end so; words that are no command have one answer
 abbrev pub MayAnswer : Option Command → SeenFiles → SeenFiles → Outcome → Type 0
-MayAnswer (Some (Check name)) old new result =
-    MayCheck name old new result × IsCounted old new result
+MayAnswer (Some (Check name turns)) old new result =
+    MayDo (CheckJob name turns) name old new result × IsCounted old new result
+MayAnswer (Some (Normal name part turns)) old new result =
+    MayDo (NormalJob name part turns) name old new result × IsCounted old new result
 MayAnswer (Some (Replay path of)) old new result =
     MayReplay old.held path of result × IsCounted old new result
 MayAnswer None old new result = result ≡ outcome.Usage
@@ -82,11 +91,13 @@ pub record Answered (command : Option Command) (old new : Seen) (result : Status
   pub may : MayAnswer command old.files new.files outcome
   pub printed : Printed (plain_text outcome) (status_of outcome) old.out new.out result
 
--- What a command may do to the files, where what it answers does not say it: a check that was out
--- of memory; words that are no command leave them alone.
+-- What a command may do to the files, where what it answers does not say it: one that stores and
+-- was out of memory; words that are no command leave them alone.
 abbrev pub MayStore : {F : Type 0} → (F → SeenFiles) → Option Command → Type 0 → F → F → Type 0
-MayStore see (Some (Check name)) OutOfMemory old new =
-    OutOfMemory → MayLeave name (see old) (see new)
+MayStore see (Some (Check name turns)) OutOfMemory old new =
+    OutOfMemory → MayLeave (CheckJob name turns) name (see old) (see new)
+MayStore see (Some (Normal name part turns)) OutOfMemory old new =
+    OutOfMemory → MayLeave (NormalJob name part turns) name (see old) (see new)
 MayStore see (Some (Replay path of)) OutOfMemory old new = StoresNothing (see old) (see new)
 MayStore see None OutOfMemory old new = new ≡ old
 
@@ -123,11 +134,19 @@ IsOfText outcome.ReadFault = ⊥
 IsOfText outcome.WriteFault = ⊥
 IsOfText result = Unit {0}
 
--- A law: where it is told what is held, a check has one text and one status, but for faults of
--- reading and of writing.
+-- if modules are read for one of that name, all their definitions are direct
+abbrev pub AreDirect : Held → List ℕ → Type 0
+AreDirect held name =
+    (texts : List Text) (codes : Codes) → IsRead (Some held) name texts codes
+    → other_place (defs_in codes) [] ≡ None
+
+-- A law: where it is told what is held, a check of a module whose definitions are direct has one
+-- text and one status, but for faults of reading and of writing, whatever the budget.
 abbrev pub OneCheck : Type 0
 OneCheck =
-    (name : List ℕ) (held : Held) (one other : Outcome) (old new before after : SeenFiles)
+    (name : List ℕ) (turns others : ℕ) (held : Held) → AreDirect held name
+    → (one other : Outcome) (old new before after : SeenFiles)
     → old.held ≡ Some held → before.held ≡ Some held → IsOfText one → IsOfText other
-    → MayCheck name old new one → MayCheck name before after other
+    → MayDo (CheckJob name turns) name old new one
+    → MayDo (CheckJob name others) name before after other
     → (plain_text one ≡ plain_text other) × (status_of one ≡ status_of other)

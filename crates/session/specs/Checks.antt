@@ -1,125 +1,90 @@
--- What checking a module answers, and what it leaves at the path of its derivation.
-use Rattle.std.specs.Prelude.{◌≡◌, ◌≢◌, ℕ, List, [], ◌∷◌, ◌++◌, length, map, slice_get, codes}
-use Rattle.std.specs.Prelude.{Option, Some, None, Result, IfOk, OnErr, String, string_bytes}
-use Rattle.std.specs.List.{flat_map}
-use Rattle.std.specs.declared.alloc.Global.{Global}
-use Rattle.std.specs.declared.alloc.AllocError.{AllocError}
-use Rattle.host_io.specs.Counts.{counted_store}
-use Rattle.host_io.specs.Files.{Held, StoreDoes}
-use Rattle.host_io.specs.Seen.{SeenFiles}
-use Rattle.host_io.specs.declared.files.Stored.{Stored}
-use Rattle.host_io.specs.declared.files.Stored.TheVariants as stored
-use Rattle.layout_lexer.specs.declared.token.Span.{Span}
+-- What checking a module comes to.
+use Rattle.std.specs.Prelude.{◌≡◌, ◌⊎◌, ℕ, List, [], ◌++◌, length, codes, Some}
+use Rattle.std.specs.Prelude.{string_bytes}
 use Rattle.translation.specs.Translated.{judgements_of}
 use Rattle.codes.specs.declared.code.CodeDef.{CodeDef}
-use Rattle.resolver.specs.declared.resolving.Codes.{Codes}
-use Rattle.resolver.specs.Resolved.{defs_in}
-use Rattle.module_texts.specs.Texts.{Text, path_of}
-use Rattle.linking.specs.Modules.{judgements, names_in}
-use Rattle.book.specs.declared.kernel.NodeId.{NodeId}
+use Rattle.module_texts.specs.Texts.{Text}
+use Rattle.linking.specs.Modules.{judgements}
 use Rattle.book_writer.specs.Written.{IsWritten}
-use Rattle.typing_steps.specs.declared.state.Root.{Root}
 use Rattle.direct.specs.Direct.{other_place}
+use Rattle.evidence.specs.declared.lines.Evidence.{Evidence}
+use Rattle.examining.specs.declared.examiner.Place.{Place}
 use Rattle.session.specs.declared.outcome.Outcome.{Outcome}
 use Rattle.session.specs.declared.outcome.Outcome.TheVariants as outcome
+use Rattle.session.specs.declared.refusal.Cause.{Cause}
 use Rattle.session.specs.declared.refusal.Cause.TheVariants as cause
-use Rattle.session.specs.declared.check_command.Found.{Found}
-use Rattle.session.specs.declared.check_command.Found.TheVariants as found
-use Rattle.session.specs.Refusals.{refusal}
-use Rattle.session.specs.Loaded.{IsRead, stated_by}
-use Rattle.session.specs.Modules.{NotLoaded, NotResolved}
-use Rattle.session.specs.Outcomes.{StoresNothing}
+use Rattle.session.specs.declared.refusal.Refusal.{Refusal}
+use Rattle.session.specs.declared.job.Job.{Job}
+use Rattle.session.specs.declared.job.Job.TheVariants.{Tell, Store}
+use Rattle.session.specs.declared.check_command.Checks.{Checks}
+use Rattle.session.specs.declared.check_command.Checks.TheVariants.{Derived, NotTyped}
+use Rattle.session.specs.Loaded.{stated_by}
+use Rattle.session.specs.Others.{IsOther}
+use Rattle.session.specs.Found.{AreNotDirect}
+use Rattle.session.specs.Refutals.{IsEvidence}
+use Rattle.session.specs.Places.{IsRefusalIn, IsRefusedAt, IsSpentIn, places}
 
--- the path of a module's derivation
+-- the path of a module's derivation, and that of the evidence that it is refused
 abbrev pub derivation_path : List ℕ → List ℕ
 derivation_path name = name ++ codes ".drv"
 
--- a definition's module, and where it is named there
-pub record Place : Type 0 where
-  pub holder : Text
-  pub name : Span
+abbrev pub evidence_path : List ℕ → List ℕ
+evidence_path name = name ++ codes ".no.drv"
 
--- the places of the definitions of modules, in order
-abbrev pub places_in : Text → List Place
-places_in x = map (λ s. record { holder = x; name = s }) (names_in x)
-
-abbrev pub places : List Text → List Place
-places = flat_map places_in
-
--- The module and those that it imports are loaded and resolved, all their definitions are direct,
--- and the file derives the judgements that they spell, and holds no row that serves none of these.
-pub record IsDerived (held : Option Held) (name bytes : List ℕ) (count : ℕ) : Type 0 where
-  pub texts : List Text
-  pub codes : Codes
-  pub is_read : IsRead held name texts codes
-  pub direct : other_place (defs_in codes) [] ≡ None
+-- A file is stored that derives the judgements that the texts spell, and holds no row that serves
+-- none of these.
+pub record IsDerived (name : List ℕ) (texts : List Text) (path bytes : List ℕ) (told : Outcome) :
+    Type 0 where
+  pub path_is : path ≡ derivation_path name
   pub rows : ℕ
   pub written : IsWritten bytes rows (judgements texts)
-  pub counted : count ≡ length (places texts)
+  pub is_told : told ≡ outcome.Checked (length (places texts))
 
--- the definition at that place of all is refused, at its name
-pub record IsRefusedAt (texts : List Text) (k : ℕ) (told : Outcome) : Type 0 where
-  pub place : Place
-  pub is : slice_get (places texts) k ≡ Some place
-  pub path : String Global
-  pub path_is : string_bytes path ≡ path_of place.holder.name
-  pub is_told : told ≡ refusal cause.RefusedForm (Some place.name.start) path
+-- A file is stored that is evidence of the cause for which a definition is refused, and shown with
+-- it. One is not direct.
+pub record IsRefuted (name : List ℕ) (texts : List Text) (defs : List CodeDef)
+    (path bytes : List ℕ) (told : Outcome) : Type 0 where
+  pub other : AreNotDirect defs
+  pub path_is : path ≡ evidence_path name
+  pub at : Place
+  pub why : Cause
+  pub refusal : Refusal
+  pub refused : IsRefusalIn texts at why refusal
+  pub evidence : Evidence
+  pub evidence_is : IsEvidence why evidence
+  pub bytes_are : evidence.bytes.items ≡ bytes
+  pub is_told : told ≡ outcome.Refuted refusal evidence.lines
 
--- they are loaded and resolved, and this tells of the first definition that is not direct
-pub record NotDirect (held : Option Held) (name : List ℕ) (told : Outcome) : Type 0 where
-  pub texts : List Text
-  pub codes : Codes
-  pub is_read : IsRead held name texts codes
-  pub at : ℕ
-  pub first : other_place (defs_in codes) [] ≡ Some at
-  pub refused : IsRefusedAt texts at told
+-- What is told where nothing is stored: one is not direct.
+pub data NotStored (texts : List Text) (defs : List CodeDef) (turns : ℕ) (told : Outcome) :
+    Type 0 where
+  -- a form stands where a type is to be inferred, and has none of its own
+  not_inferred : AreNotDirect defs → (at : Place) → (refusal : Refusal)
+      → IsRefusalIn texts at cause.CannotInfer refusal → told ≡ outcome.Refused refusal
+      → NotStored texts defs turns told
+  -- a budget was spent
+  spent : AreNotDirect defs → (at : Place) → IsSpentIn texts at turns told
+      → NotStored texts defs turns told
+  -- a step was not taken, which is told of the first that is not direct
+  not_taken : (k : ℕ) → other_place defs [] ≡ Some k → IsRefusedAt texts k told
+      → NotStored texts defs turns told
 
--- what a store of a module's derivation did to the files
-pub record IsStored (name bytes : List ℕ) (old new : SeenFiles) (answer : Stored) : Type 0 where
-  pub held : StoreDoes old.held new.held (derivation_path name) bytes answer
-  pub counted : new.counts ≡ counted_store answer old.counts
+-- what it comes to where definitions are not all typed, each question within so many moves
+abbrev pub OtherJob : List ℕ → ℕ → List Text → List CodeDef → Job → Type 0
+OtherJob name turns texts defs (Tell told) = NotStored texts defs turns told
+OtherJob name turns texts defs (Store path bytes told) =
+    IsRefuted name texts defs (string_bytes path) bytes.items told
 
--- how that is told, where the module has so many definitions; None stands for out of memory
-abbrev pub told_stored : ℕ → Stored → Option Outcome
-told_stored count stored.Done = Some (outcome.Checked count)
-told_stored count stored.Failed = Some outcome.WriteFault
-told_stored count stored.Memory = None
+-- what a check of the module of that name comes to
+abbrev pub CheckJob : List ℕ → ℕ → List Text → List CodeDef → Job → Type 0
+CheckJob name turns texts defs (Tell told) = NotStored texts defs turns told
+CheckJob name turns texts defs (Store path bytes told) =
+    IsDerived name texts (string_bytes path) bytes.items told
+    ⊎ IsRefuted name texts defs (string_bytes path) bytes.items told
 
--- how a check may end, and what it leaves then
-pub data MayCheck (name : List ℕ) (old new : SeenFiles) (told : Outcome) : Type 0 where
-  not_loaded : NotLoaded old.held name told → StoresNothing old new → MayCheck name old new told
-  not_resolved : NotResolved old.held name told → StoresNothing old new
-      → MayCheck name old new told
-  not_direct : NotDirect old.held name told → StoresNothing old new → MayCheck name old new told
-  derived : (bytes : List ℕ) (count : ℕ) → IsDerived old.held name bytes count
-      → (answer : Stored) → IsStored name bytes old new answer
-      → told_stored count answer ≡ Some told → MayCheck name old new told
-
--- What a check may leave where it is out of memory: what was there, or what a store of the whole
--- derivation leaves that did not fail.
-pub data MayLeave (name : List ℕ) (old new : SeenFiles) : Type 0 where
-  nothing : StoresNothing old new → MayLeave name old new
-  derivation : (bytes : List ℕ) (count : ℕ) → IsDerived old.held name bytes count
-      → (answer : Stored) → answer ≢ stored.Failed → IsStored name bytes old new answer
-      → MayLeave name old new
-
--- steps of a check
-
--- the nodes of what definitions state, in order
-abbrev pub nodes_of : List Root → List NodeId
-nodes_of = flat_map (λ r. r.ty ∷ r.body ∷ [])
-
--- what is found of definitions: the derivation of what they state, or the first that is not direct
-abbrev pub IsChecked : List CodeDef → Found → Type 0
-IsChecked defs (found.Derived bytes) =
-    (other_place defs [] ≡ None)
-    × ((rows : ℕ) × IsWritten bytes.items rows (judgements_of (stated_by defs)))
-IsChecked defs (found.NotDirect k) = other_place defs [] ≡ Some k
-
--- what storing the derivation of so many definitions does, and answers
-pub record Stores (name bytes : List ℕ) (count : ℕ) (old new : SeenFiles)
-    (result : Result Outcome AllocError) : Type 0 where
-  pub answer : Stored
-  pub spent : OnErr result (answer ≡ stored.Memory)
-  pub stored : IsStored name bytes old new answer
-  pub told : IfOk result (λ o. told_stored count answer ≡ Some o)
+-- what comes of definitions: the derivation of what they state, or that they are not all typed
+abbrev pub IsChecked : List CodeDef → Checks → Type 0
+IsChecked defs (Derived bytes) =
+    (rows : ℕ) × IsWritten bytes.items rows (judgements_of (stated_by defs))
+IsChecked defs (NotTyped other) =
+    (first : ℕ) × (other_place defs [] ≡ Some first) × IsOther (length defs) first other

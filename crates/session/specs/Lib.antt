@@ -1,9 +1,13 @@
-pub mod Words
-pub mod Given
 pub mod Writes
 pub mod Refusals
 pub mod Outcomes
 pub mod Modules
-pub mod Answers
 pub mod Loaded
+pub mod Jobs
+pub mod Places
+pub mod Found
+pub mod Refutals
+pub mod Others
 pub mod Checks
+pub mod Normals
+pub mod Answers

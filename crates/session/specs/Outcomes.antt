@@ -18,10 +18,15 @@ plain_text (outcome.Judged (Yes rows roots)) =
 plain_text (outcome.Judged (No row)) = codes "no: row " ++ (decimal row ++ codes "\n")
 plain_text (outcome.RootDiffers root) = codes "no: root " ++ (decimal root ++ codes "\n")
 plain_text (outcome.Refused refusal) = refusal_text refusal
+plain_text (outcome.Refuted refusal lines) = refusal_text refusal ++ string_bytes lines
 plain_text (outcome.MissingFile path) =
     codes "no: MissingFile in " ++ (string_bytes path ++ codes "\n")
 plain_text outcome.ReadFault = codes "fault: ReadFault\n"
 plain_text (outcome.Checked count) = codes "yes: " ++ (decimal count ++ codes " definitions\n")
+plain_text (outcome.Shown text) = string_bytes text
+plain_text (outcome.Spent turns at path) =
+    codes "spent: " ++ (decimal turns ++ (codes " at " ++ (decimal at
+    ++ (codes " in " ++ (string_bytes path ++ codes "\n")))))
 plain_text outcome.WriteFault = codes "fault: WriteFault\n"
 plain_text outcome.Usage =
     codes "usage: ctt check MODULE [--turns N] [--json] | replay FILE [--of MODULE] | normal MODULE NAME [--turns N] | prompt MODULE [--turns N] | make N\n"
@@ -32,9 +37,12 @@ status_of (outcome.Judged (Yes rows roots)) = status.Yes
 status_of (outcome.Judged (No row)) = status.No
 status_of (outcome.RootDiffers root) = status.No
 status_of (outcome.Refused refusal) = status.No
+status_of (outcome.Refuted refusal lines) = status.No
 status_of (outcome.MissingFile path) = status.No
 status_of outcome.ReadFault = status.Fault
 status_of (outcome.Checked count) = status.Yes
+status_of (outcome.Shown text) = status.Yes
+status_of (outcome.Spent turns at path) = status.Spent
 status_of outcome.WriteFault = status.Fault
 status_of outcome.Usage = status.Usage
 
@@ -44,6 +52,10 @@ counts_after (outcome.MissingFile path) counts = counted_fetch fetched.Missing c
 counts_after outcome.ReadFault counts = counted_fetch fetched.Failed counts
 counts_after outcome.WriteFault counts = counted_store stored.Failed counts
 counts_after result counts = counts
+
+-- an outcome of which no count tells
+abbrev pub IsUncounted : Outcome → Type 0
+IsUncounted told = (counts : FileCounts) → counts_after told counts ≡ counts
 
 abbrev pub IsCounted : SeenFiles → SeenFiles → Outcome → Type 0
 IsCounted old new told = new.counts ≡ counts_after told old.counts

@@ -30,6 +30,16 @@ cause_name cause.NameKind = codes "NameKind"
 cause_name cause.GlueSide = codes "GlueSide"
 cause_name cause.ImportCycle = codes "ImportCycle"
 cause_name cause.TooMany = codes "TooMany"
+cause_name cause.NoSuchName = codes "NoSuchName"
+cause_name cause.CannotInfer = codes "CannotInfer"
+cause_name cause.WantedFunction = codes "WantedFunction"
+cause_name cause.WantedPair = codes "WantedPair"
+cause_name cause.WantedPath = codes "WantedPath"
+cause_name cause.WantedGlue = codes "WantedGlue"
+cause_name cause.WantedType = codes "WantedType"
+cause_name cause.UInU = codes "UInU"
+cause_name cause.Mismatch = codes "Mismatch"
+cause_name cause.SidesDiffer = codes "SidesDiffer"
 
 abbrev pub place_text : Option ℕ → List ℕ
 place_text None = []

@@ -8,13 +8,18 @@
 #![tactic(auto)]
 
 mod check_command;
+mod found;
+mod job;
+mod normal_command;
+mod others;
 mod outcome;
+mod places;
 mod program;
 mod refusal;
+mod refutals;
 mod replay_command;
 mod roots;
 mod top;
-mod words;
 
 pub use outcome::{Status, answers_exclude_each_other};
 pub use top::run;

@@ -21,7 +21,7 @@ pub enum Status {
     Usage,
     /// A read or a write failed.
     Fault,
-    /// A question reached its budget. No command answers this yet.
+    /// A question reached its budget.
     Spent,
     /// It was out of memory.
     Memory,
@@ -36,12 +36,19 @@ pub(crate) enum Outcome {
     RootDiffers(u64),
     /// A module is refused.
     Refused(Refusal),
+    /// A definition is refused, with the lines that show why.
+    Refuted(Refusal, String),
     /// The file at the path is not there.
     MissingFile(String),
     /// A file could not be read.
     ReadFault,
     /// All of a module's definitions are right, and those of its imports: so many.
     Checked(u64),
+    /// The text of a normal form, with its newline.
+    Shown(String),
+    /// A question reached its budget, in moves, which was asked of the form at this byte of the
+    /// file at the path.
+    Spent { turns: u64, at: u32, path: String },
     /// A file could not be stored.
     WriteFault,
     /// The words are no command.
@@ -62,9 +69,16 @@ impl Outcome {
             Outcome::Judged(Verdict::No { row: _ }) => Status::No,
             Outcome::RootDiffers(_) => Status::No,
             Outcome::Refused(_) => Status::No,
+            Outcome::Refuted(_, _) => Status::No,
             Outcome::MissingFile(_) => Status::No,
             Outcome::ReadFault => Status::Fault,
             Outcome::Checked(_) => Status::Yes,
+            Outcome::Shown(_) => Status::Yes,
+            Outcome::Spent {
+                turns: _,
+                at: _,
+                path: _,
+            } => Status::Spent,
             Outcome::WriteFault => Status::Fault,
             Outcome::Usage => Status::Usage,
         }
@@ -86,8 +100,17 @@ impl Outcome {
             Outcome::Judged(Verdict::No { row }) => format!(in alloc; "no: row {row}\n")?,
             Outcome::RootDiffers(root) => format!(in alloc; "no: root {root}\n")?,
             Outcome::Refused(refusal) => refusal.text(alloc)?,
+            Outcome::Refuted(refusal, lines) => {
+                let mut text = refusal.text(alloc)?;
+                text.push_str(lines.as_str())?;
+                text
+            }
             Outcome::MissingFile(path) => format!(in alloc; "no: MissingFile in {path}\n")?,
             Outcome::Checked(count) => format!(in alloc; "yes: {count} definitions\n")?,
+            Outcome::Shown(text) => String::from_str(alloc, text.as_str())?,
+            Outcome::Spent { turns, at, path } => {
+                format!(in alloc; "spent: {turns} at {at} in {path}\n")?
+            }
         };
         Ok(CowStr::Owned(made))
     }

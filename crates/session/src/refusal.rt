@@ -24,8 +24,8 @@ pub(crate) enum Cause {
     TooLong,
     /// No module begins with the tokens up to the one at the place.
     Unexpected,
-    /// At the place stands a word that no module has, or the name of a definition that is not
-    /// direct.
+    /// At the place stands a word that no module has, or the name of a definition of which a step
+    /// was not taken.
     RefusedForm,
     /// At the place begins the first thing at depth 513.
     TooDeep,
@@ -41,6 +41,27 @@ pub(crate) enum Cause {
     ImportCycle,
     /// An import names one module more than are loaded.
     TooMany,
+    /// No definition at the top level of the module, or of those that it reaches, has the name.
+    NoSuchName,
+    /// At the place stands a pair, a path, an element of a glued type or the universe, where a type
+    /// is to be inferred.
+    CannotInfer,
+    /// The type of what stands at the place is none of functions,
+    WantedFunction,
+    /// of pairs,
+    WantedPair,
+    /// of paths,
+    WantedPath,
+    /// a glued type over the wanted face,
+    WantedGlue,
+    /// or the universe.
+    WantedType,
+    /// The universe is wanted to be of the universe.
+    UInU,
+    /// What was found at the place is not what is wanted.
+    Mismatch,
+    /// Two sides are not the same where both are, or a side and the base where it starts.
+    SidesDiffer,
 }
 
 impl Cause {
@@ -62,6 +83,16 @@ impl Cause {
             Cause::GlueSide => "GlueSide",
             Cause::ImportCycle => "ImportCycle",
             Cause::TooMany => "TooMany",
+            Cause::NoSuchName => "NoSuchName",
+            Cause::CannotInfer => "CannotInfer",
+            Cause::WantedFunction => "WantedFunction",
+            Cause::WantedPair => "WantedPair",
+            Cause::WantedPath => "WantedPath",
+            Cause::WantedGlue => "WantedGlue",
+            Cause::WantedType => "WantedType",
+            Cause::UInU => "UInU",
+            Cause::Mismatch => "Mismatch",
+            Cause::SidesDiffer => "SidesDiffer",
         }
     }
 }

@@ -4,13 +4,14 @@ ghost use Rattle.std.specs.Prelude.{◌≡◌, ◌≢◌, [], IfOk, IsErr};
 ghost use Rattle.host_io.specs.Seen.{seen_files, seen_source, seen_sink};
 ghost use Rattle.session.specs.Answers.{MayAnswer, MayStore, Printed, Ran, world};
 ghost use Rattle.session.specs.Outcomes.{plain_text, status_of};
-ghost use Rattle.session.specs.Words.{command, texts};
+ghost use Rattle.command_words.specs.Words.{command, texts};
 ghost use Rattle.session.specs.Writes.{Wrote, WroteSome};
 
 use crate::check_command::check;
+use crate::normal_command::{Asked, normal};
 use crate::outcome::{Outcome, Status};
 use crate::replay_command::replay;
-use crate::words::{Command, command_of};
+use command_words::{Command, command_of};
 use host_io::{Files, Sink, Source, Took};
 use std::alloc::{AllocError, Global};
 
@@ -71,8 +72,22 @@ fn outcome_of<F: Files>(
         (IsErr result) files.old files.new }
 {
     match command_of(alloc, words)? {
-        Some(Command::Check(name)) => Ok(check(alloc, name, files)?),
-        Some(Command::Replay(path, of)) => Ok(replay(alloc, path, of, files)?),
+        Some(Command::Check { module, turns }) => Ok(check(alloc, module, turns, files)?),
+        Some(Command::Replay { file, of }) => Ok(replay(alloc, file, of, files)?),
+        Some(
+            Command::Normal {
+                module,
+                name,
+                turns,
+            },
+        ) => {
+            let asked = Asked {
+                module_name: module,
+                name,
+                turns,
+            };
+            Ok(normal(alloc, asked, files)?)
+        }
         None => Ok(Outcome::Usage),
     }
 }

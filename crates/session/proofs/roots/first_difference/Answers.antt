@@ -1,4 +1,4 @@
-use Rattle.std.proofs.Common.{◌≡◌, ◌<◌, take, length, map, sym, ◌∙◌, subst, refl, arith, true≢false, IsSome}
+use Rattle.std.proofs.Common.{◌≡◌, ◌<◌, take, length, map, sym, ◌∙◌, subst, arith, true≢false}
 use Rattle.std.proofs.lemmas.List.{length-map}
 use Rattle.trees.specs.declared.claim.Claim.TheVariants.{Ctx}
 use Rattle.trees.specs.Claimed.{claimed}

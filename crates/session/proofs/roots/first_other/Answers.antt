@@ -1,6 +1,4 @@
-use Rattle.std.proofs.Common.{sym, subst, IsSome}
-use Rattle.std.specs.List.{All}
-use Rattle.trees.specs.Claimed.{claimed}
+use Rattle.std.proofs.Common.{sym, subst}
 use Rattle.translation.specs.Translated.{judgements_of}
 use Rattle.replay.specs.Shown.{root_judgements, rows_mean}
 use Rattle.session.specs.Loaded.{stated_by}

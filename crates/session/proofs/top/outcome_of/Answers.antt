@@ -2,30 +2,45 @@ use Rattle.std.proofs.Common.{◌≡◌, ◌∙◌, refl, ap, sym, subst, Some, 
 use Rattle.std.specs.Option.{option_map}
 use Rattle.host_io.specs.Seen.{seen_files}
 use Rattle.session.specs.Answers.{MayAnswer}
-use Rattle.session.specs.Words.{Command, Check, command_read}
-use Rattle.session.specs.declared.words.Command.{Command as ReadCommand}
-use Rattle.session.specs.declared.words.Command.TheVariants as read
-use Rattle.session.proofs.RunLemmas.{stores_checked}
+use Rattle.command_words.specs.Words.{Command, command, texts}
+use Rattle.command_words.specs.Read.{command_read}
+use Rattle.command_words.specs.declared.commands.Command.{Command as ReadCommand}
+use Rattle.command_words.specs.declared.commands.Command.TheVariants as read
+use Rattle.session.proofs.RunLemmas.{stores_as}
 use Rattle.session.proofs.top.outcome_of.Goals as goal
 
 -- the command that was read is the words' one
-is_check : (found : Option ReadCommand) (asked : Option Command) (name : _) → found ≡ Some (read.Check name) → option_map command_read found ≡ asked → Some (Check name.now) ≡ asked
-is_check found asked name is read = ap (option_map command_read) (sym is) ∙ read
+asked_is : (found : Option ReadCommand) (asked : Option Command) (it : ReadCommand) → found ≡ Some it → option_map command_read found ≡ asked → Some (command_read it) ≡ asked
+asked_is found asked it is read = ap (option_map command_read) (sym is) ∙ read
 
 pub returns-in_err-check-in-Some-Check-clause-stored : goal.returns-in_err-check-in-Some-Check-clause-stored
 returns-in_err-check-in-Some-Check-clause-stored g c =
     let see = seen_files g.F.Files.held g.F.Files.counts in
-    let found : c.in_ok-name.field-0 ≡ Some (read.Check c.in-Some-Check.name) = search in
-    stores_checked see _ c.in-Some-Check.name.now _ c.args.files.now c.check.new.files (is_check c.in_ok-name.field-0 _ c.in-Some-Check.name found c.in_ok-name.ensures) (λ e. c.in_err-check-in-Some-Check.ensures.left refl)
+    let it = read.Check c.in-Some-Check.module c.in-Some-Check.turns in
+    let found : c.in_ok-module.field-0 ≡ Some it = search in
+    stores_as see (command (texts c.args.words.now)) (Some (command_read it)) _ c.args.files.now c.check.new.files
+    (asked_is c.in_ok-module.field-0 (command (texts c.args.words.now)) it found c.in_ok-module.ensures) (λ e. c.in_err-check-in-Some-Check.ensures.left refl)
+
+pub returns-in_err-normal-in-Some-Normal-clause-stored : goal.returns-in_err-normal-in-Some-Normal-clause-stored
+returns-in_err-normal-in-Some-Normal-clause-stored g c =
+    let see = seen_files g.F.Files.held g.F.Files.counts in
+    let it = read.Normal c.in-Some-Normal.module c.in-Some-Normal.name c.in-Some-Normal.turns in
+    let found : c.in_ok-module.field-0 ≡ Some it = search in
+    stores_as see (command (texts c.args.words.now)) (Some (command_read it)) _ c.args.files.now c.normal.new.files
+    (asked_is c.in_ok-module.field-0 (command (texts c.args.words.now)) it found c.in_ok-module.ensures) (λ e. c.in_err-normal-in-Some-Normal.ensures.left refl)
 
 pub returns-in_ok-check-in-Some-Check-clause-answer : goal.returns-in_ok-check-in-Some-Check-clause-answer
 returns-in_ok-check-in-Some-Check-clause-answer g c =
     let see = seen_files g.F.Files.held g.F.Files.counts in
-    let found : c.in_ok-name.field-0 ≡ Some (read.Check c.in-Some-Check.name) = search in
-    subst (λ asked. MayAnswer asked (see c.args.files.now) (see c.check.new.files) c.in_ok-check-in-Some-Check.field-0) (is_check c.in_ok-name.field-0 _ c.in-Some-Check.name found c.in_ok-name.ensures) c.in_ok-check-in-Some-Check.ensures.answer
+    let it = read.Check c.in-Some-Check.module c.in-Some-Check.turns in
+    let found : c.in_ok-module.field-0 ≡ Some it = search in
+    subst (λ asked. MayAnswer asked (see c.args.files.now) (see c.check.new.files) c.in_ok-check-in-Some-Check.field-0)
+    (asked_is c.in_ok-module.field-0 (command (texts c.args.words.now)) it found c.in_ok-module.ensures) c.in_ok-check-in-Some-Check.ensures.answer
 
-pub returns-in_ok-check-in-Some-Check-clause-stored : goal.returns-in_ok-check-in-Some-Check-clause-stored
-returns-in_ok-check-in-Some-Check-clause-stored g c =
+pub returns-in_ok-normal-in-Some-Normal-clause-answer : goal.returns-in_ok-normal-in-Some-Normal-clause-answer
+returns-in_ok-normal-in-Some-Normal-clause-answer g c =
     let see = seen_files g.F.Files.held g.F.Files.counts in
-    let found : c.in_ok-name.field-0 ≡ Some (read.Check c.in-Some-Check.name) = search in
-    stores_checked see _ c.in-Some-Check.name.now _ c.args.files.now c.check.new.files (is_check c.in_ok-name.field-0 _ c.in-Some-Check.name found c.in_ok-name.ensures) (λ e. cc)
+    let it = read.Normal c.in-Some-Normal.module c.in-Some-Normal.name c.in-Some-Normal.turns in
+    let found : c.in_ok-module.field-0 ≡ Some it = search in
+    subst (λ asked. MayAnswer asked (see c.args.files.now) (see c.normal.new.files) c.in_ok-normal-in-Some-Normal.field-0)
+    (asked_is c.in_ok-module.field-0 (command (texts c.args.words.now)) it found c.in_ok-module.ensures) c.in_ok-normal-in-Some-Normal.ensures.answer

@@ -1,6 +1,6 @@
 use Rattle.std.proofs.Common.{◌≡◌, refl}
 use Rattle.host_io.specs.Seen.{seen_files}
-use Rattle.session.specs.Words.{command, texts}
+use Rattle.command_words.specs.Words.{command, texts}
 use Rattle.session.specs.declared.outcome.Status.TheVariants as status
 use Rattle.session.proofs.RunLemmas.{stores, stores_less}
 use Rattle.session.proofs.top.run.Goals as goal

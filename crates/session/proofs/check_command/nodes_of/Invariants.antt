@@ -1,6 +1,0 @@
-use Rattle.std.proofs.Common.{◌≡◌, take}
-use Rattle.session.specs.Checks.{nodes_of}
-use Rattle.session.proofs.check_command.nodes_of.Given as goal
-
-abbrev pub invariant-loop-root : goal.invariant-loop-root
-invariant-loop-root l = l.nodes.items ≡ nodes_of (take l.root-index l.roots)
