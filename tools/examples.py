@@ -1,16 +1,17 @@
 #!/usr/bin/env python3
 """Checks the modules of `examples`, and what the pages say that the program prints.
 
-    python3 tools/examples.py PROGRAM
+    python3 tools/examples.py PROGRAM [PAGE ..]
 
-Each module of `examples` checks, to the bytes of the derivation that is stored beside it, and each
-derivation replays as one of its module. In pages, a fenced block that begins with `$ ` is what a
-reader would see who types it, with the program as `ctt`: after each command stands what it prints.
-`$ cat FILE` writes the file where it isn't there yet. Of a command of `ctt` alone the status is the
-one that its line wants. Of tables, the texts in `docs/LANGUAGE.md` that have an answer are answered
-so, or are read where they stand for a production, and the lines in `docs/FORMAT.md` are those of
-`two.drv`.
-`docs/CAUSES.md` has a heading for each cause of `session`.
+Each module of `examples` checks, to the bytes of the derivation beside it where one is stored, and
+each derivation replays as one of its module. In pages, a fenced block that begins with `$ ` is what
+a reader would see who types it, with the program as `ctt`: after each command stands what it
+prints, refusals with their lines and normal forms too. It runs in a folder with `examples`, `tools`
+and `editors` in it; `$ cat FILE` writes the file where it isn't there yet. Of a command of `ctt`
+alone the status is the one that its first line wants. Of tables, the texts in `docs/LANGUAGE.md`
+that have an answer are answered so, or are read where they stand for a production, and the lines in
+`docs/FORMAT.md` are those of `two.drv`. `docs/CAUSES.md` has a heading for each cause of `session`.
+With a PAGE the blocks of that page alone are typed.
 """
 import pathlib
 import re
@@ -21,8 +22,10 @@ import tempfile
 
 ROOT = pathlib.Path(__file__).resolve().parent.parent
 EXAMPLES = ROOT / "examples"
-PAGES = ["README.md", "docs/CAUSES.md", "docs/FORMAT.md", "docs/LANGUAGE.md"]
-STATUSES = {"yes": 0, "no": 1, "usage": 2, "fault": 3, "": 5}
+PAGES = ["README.md", *sorted(f"docs/{path.name}" for path in (ROOT / "docs").glob("*.md")),
+         "editors/README.md"]
+STATUSES = {"yes:": 0, "no:": 1, "usage:": 2, "fault:": 3, "spent:": 4, "": 5}
+LIMIT = 600  # seconds that one command may take: a build without proofs is slow at univalence
 
 
 class Folder:
@@ -31,11 +34,13 @@ class Folder:
     def __init__(self, program, path):
         self.program, self.at, self.status = program, pathlib.Path(path), 0
         shutil.copytree(EXAMPLES, self.at / "examples")
+        for name in ("tools", "editors"):
+            (self.at / name).symlink_to(ROOT / name)
 
     def run(self, command):
         """What a command prints. The shell knows the status of the one before it."""
         typed = f'ctt() {{ "{self.program}" "$@"; }}\n(exit {self.status})\n{command}\n'
-        ran = subprocess.run(["sh", "-c", typed], cwd=self.at, timeout=120,
+        ran = subprocess.run(["sh", "-c", typed], cwd=self.at, timeout=LIMIT,
                              stdout=subprocess.PIPE, stderr=subprocess.STDOUT)
         self.status = ran.returncode
         return ran.stdout.decode(errors="replace")
@@ -52,10 +57,14 @@ class Folder:
         printed = self.run(command)
         if printed != shown:
             return f"`{command}` prints {printed!r}, not {shown!r}"
-        if re.fullmatch(r"ctt [^|;&<>]*", command):
-            wanted = STATUSES.get(re.match("[a-z]*", printed)[0])
-            return None if self.status == wanted else f"`{command}` ends with {self.status}"
+        if re.fullmatch(r"ctt [^|;&<>]*", command) and self.status != wanted_status(printed):
+            return f"`{command}` ends with {self.status}"
         return None
+
+
+def wanted_status(printed):
+    """The status that what is printed wants: 0 of a normal form, which has no word of those."""
+    return STATUSES.get(printed.partition(" ")[0], 0)
 
 
 def in_folder(program, steps):
@@ -74,13 +83,18 @@ def blocks(text):
 
 
 def examples():
-    """The modules of the examples, as steps. `check` wrote their derivations, but for `two.drv`."""
-    for path in sorted(EXAMPLES.glob("*.ctt")):
-        module = path.stem
+    """The modules of the examples, as steps. `check` wrote their derivations, but for `two.drv`; long
+    ones are not stored."""
+    for path in sorted([*EXAMPLES.glob("*.ctt"), *EXAMPLES.glob("evaluation/*.ctt")]):
+        module, folder = path.stem, path.parent.relative_to(ROOT)
         file = "two.drv" if module == "Two" else f"{module}.drv"
-        text = (EXAMPLES / file).read_text()
+        if not (path.parent / file).exists():
+            yield [(f"cd {folder}", ""), (f"ctt check {module} | cut -d ' ' -f 1", "yes:\n"),
+                   (f"ctt replay {file} --of {module} | cut -d ' ' -f 1", "yes:\n")]
+            continue
+        text = (path.parent / file).read_text()
         rows, roots = text.count("\n"), len(re.findall("^r ", text, re.M))
-        steps = [("cd examples", ""),
+        steps = [(f"cd {folder}", ""),
                  (f"ctt replay {file} --of {module}", f"yes: {rows} rows, {roots} roots\n"),
                  (f"mv {file} stored", ""),
                  (f"ctt check {module} | cut -d ' ' -f 1", "yes:\n")]
@@ -98,7 +112,8 @@ WITHIN = {
 }
 WITHIN |= {f"exp{k}": WITHIN["exp"] for k in range(1, 6)}
 WITHIN |= {"conj": WITHIN["formula"], "neg": WITHIN["formula"]}
-READ = re.compile(r"yes|no: (Unbound|NameKind|GlueSide|MissingFile|RefusedForm at 15 )")
+READ = re.compile(
+    "yes|no: (Unbound|NameKind|GlueSide|MissingFile|CannotInfer|Wanted|UInU|Mismatch)")
 
 
 def table(text, head):
@@ -151,14 +166,14 @@ def causes():
 
 
 def main():
-    if len(sys.argv) != 2:
+    if len(sys.argv) < 2:
         sys.exit(__doc__.strip())
-    program = pathlib.Path(sys.argv[1]).resolve()
+    program, pages = pathlib.Path(sys.argv[1]).resolve(), sys.argv[2:]
     wrong, done = [], 0
-    for steps in examples():
+    for steps in [] if pages else examples():
         wrong += in_folder(program, steps)
         done += 1
-    for page in PAGES:
+    for page in pages or PAGES:
         text = (ROOT / page).read_text()
         for steps in blocks(text):
             wrong += [f"{page}: {what}" for what in in_folder(program, steps)]

@@ -175,7 +175,7 @@ def deep_file():
 
 def files():
     """What stands in the folder at first."""
-    found = {path.name: path.read_bytes() for path in EXAMPLES.iterdir()}
+    found = {path.name: path.read_bytes() for path in EXAMPLES.glob("*.*")}
     found.update({name: OLD for name in found if name.endswith(".drv") and name != "two.drv"})
     return {**found, "Deep.ctt": deep_module().encode(), "deep": deep_file().encode()}
 

@@ -36,7 +36,7 @@ from running import Program, Wrong, hold, within
 from try_modules import direct_module
 
 ROOT = pathlib.Path(__file__).resolve().parent.parent
-FILES = {path.name: path.read_bytes() for path in (ROOT / "examples").iterdir()}
+FILES = {path.name: path.read_bytes() for path in (ROOT / "examples").glob("*.*")}
 TEXTS = {name: data for name, data in FILES.items() if name.endswith(".ctt")}
 OF_RULES = [path.read_bytes() for path in sorted((ROOT / "tests").glob("*.drv"))]
 OLD = b"what stood here before\n"

@@ -33,12 +33,14 @@ LAWS = [("session/src/outcome.rt", "answers_exclude_each_other"),
         ("text_laws/src/lib.rt", "texts_determine_directness")]
 
 # The parts of the contract, each with the names of definitions that only later parts need.
-OF_CHECK = {"MayCheck", "MayLeave"}
-OF_MODULES = {"MayReplayOf", "is_module_name", "refusal_text"}
+OF_NORMAL = {"NormalJob", "normal_of"}
+OF_CHECK = {"MayDo", "MayLeave", "CheckJob", "check_of", "turns_of"} | OF_NORMAL
+OF_MODULES = {"MayReplayOf", "is_only", "tokens_of", "refusal_text"}
 PARTS = {
     "`replay FILE`": OF_MODULES | OF_CHECK,
     "`replay FILE --of MODULE`": OF_CHECK,
-    "`check MODULE`": set(),
+    "`check MODULE`": OF_NORMAL,
+    "`normal MODULE NAME`": set(),
 }
 
 # A piece of a file: some lines, with the names that are defined there.

@@ -109,7 +109,8 @@ def expected(said):
 def unproved():
     """How many cases pass and fail on a build without proofs."""
     tried = cases(10)
-    data = [word for path in sorted(EXAMPLES.iterdir()) for word in ("--data", f"{path.name}={path}")]
+    data = [word for path in sorted(EXAMPLES.glob("*.*"))
+            for word in ("--data", f"{path.name}={path}")]
     with tempfile.TemporaryDirectory() as folder:
         lay_out(folder, tried)
         ran = subprocess.run(["rt", "try", "--cases", folder, *data], cwd=ROOT / "crates" / "ctt",
