@@ -1,6 +1,6 @@
 #!/usr/bin/env python3
-"""Runs the tables of `tests` and the cases of `try_program.py`, and ends with one line that counts
-them all.
+"""Runs the tables of `tests`, the cases of `try_program.py` and, on what the gate has built, the
+library of examples, and ends with one line that counts them all.
 
     tools/run_cases.py             on builds without proofs, by `rt try`: some minutes
     tools/run_cases.py --after     on the programs that the gate has built, as `.ci/run` does, which
@@ -10,13 +10,16 @@ It looks besides whether the edits of tools/edits still apply. The status is 0 o
 failed.
 """
 import concurrent.futures
+import pathlib
 import re
+import subprocess
 import sys
 
 import try_edits
 import try_program
 import try_tables
 
+LIBRARY = pathlib.Path(__file__).resolve().parent / "library.py"
 ENDED = re.compile(r"rt ci ended with (\d+)\n")
 
 
@@ -32,12 +35,21 @@ def gate(lines):
     return 1, (0, 1)
 
 
+def library():
+    """The counts of the modules of `examples/library`, checked and replayed."""
+    words = [sys.executable, str(LIBRARY), "--ctt", str(try_program.PROGRAM)]
+    said = subprocess.run(words, capture_output=True, text=True).stdout
+    print(said, end="", flush=True)
+    return try_tables.last_count(said.rstrip("\n").rpartition("\n")[2])
+
+
 def proved():
     """The status of the gate, and its counts and, where it passes, those of what it has built."""
     status, count = gate(sys.stdin)
     if status:
         return status, [count]
-    return 0, [count, *map(try_tables.proved, try_tables.TABLES), try_program.proved()]
+    tables = map(try_tables.proved, try_tables.TABLES)
+    return 0, [count, *tables, try_program.proved(), library()]
 
 
 def unproved():

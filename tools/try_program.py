@@ -23,7 +23,10 @@ ROOT = pathlib.Path(__file__).resolve().parent.parent
 EXAMPLES = ROOT / "examples"
 PROGRAM = ROOT / "crates" / "ctt" / "out" / "ctt"
 TWO = (EXAMPLES / "two.drv").read_text()
-USAGE = (ROOT / "crates" / "ctt" / "stdout").read_text()
+USAGE = (
+    "usage: ctt check MODULE [--turns N] [--json] | replay FILE [--of MODULE] | "
+    "normal MODULE NAME [--turns N] | prompt MODULE [--turns N] | make N\n"
+)
 YES = "yes: 13 rows, 2 roots\n"
 CASES = {
     "example": (TWO, ["replay", "{}"], YES, 0),
@@ -36,6 +39,23 @@ CASES = {
     "of_module": (TWO, ["replay", "{}", "--of", "none"], "no: MissingFile in none.ctt\n", 1),
     "checked": ("", ["check", "First"], "yes: 2 definitions\n", 0),
     "unchecked": ("", ["check", "data"], "no: MissingFile in data.ctt\n", 1),
+    "in_json": ("", ["check", "First", "--json"], '{"answer":"yes","definitions":2}\n', 0),
+    "missing_in_json": (
+        "",
+        ["check", "data", "--json"],
+        '{"answer":"no","cause":"MissingFile","path":"data.ctt"}\n',
+        1,
+    ),
+    "normal": ("", ["normal", "First", "two"], "(suc (suc zero))\n", 0),
+    "nameless": ("", ["normal", "First", "three"], "no: NoSuchName in First.ctt\n", 1),
+    "spent": ("", ["normal", "First", "two", "--turns=1"], "spent: 1 at 114 in First.ctt\n", 4),
+    "made": (
+        "",
+        ["make", "1"],
+        "module Gen where\nd0 : nat = zero\nyes: 1 definitions\nreplayed: 2 roots\n",
+        0,
+    ),
+    "makes_none": ("", ["make", "0"], USAGE, 2),
 }
 
 

@@ -1,3 +1,6 @@
 pub mod NameLaws
 pub mod NumberLaws
-pub mod SortLaws
+pub mod WalkLaws
+pub mod FormLaws
+pub mod CommandLaws
+pub mod MatchLaws

@@ -7,8 +7,11 @@
 #![tactic(auto)]
 
 mod commands;
+mod grammar;
 mod names;
 mod numbers;
-mod sorting;
 
 pub use commands::{Command, command_of};
+
+#[cfg(test)]
+mod tests;

@@ -1,6 +1,6 @@
--- What lines and files show of equations.
-use Rattle.std.proofs.Common.{◌≡◌, ◌≢◌, ◌↔◌, ℕ, Bool, true, false, List, [], ◌∷◌, ◌++◌, codes, Option, Some, None, IsTrue, refl, sym, ◌∙◌, ap, ap₂, subst, append_assoc, string_bytes}
-use Rattle.std.specs.Prelude.{IfSome, IsSome}
+-- What texts and files show of equations.
+use Rattle.std.proofs.Common.{◌≡◌, ◌↔◌, ℕ, Bool, false, List, [], ◌∷◌, ◌++◌, codes, Option, Some, None, IsTrue, refl, sym, ◌∙◌, ap, ap₂, subst, string_bytes}
+use Rattle.std.specs.Prelude.{IfSome, IsSome, option_map}
 use Rattle.recipe_runner.proofs.BuildLaws.{some-is}
 use Rattle.std.proofs.lemmas.Bool.{true≢false}
 use Rattle.trees.specs.declared.op.Op.{Op}
@@ -8,14 +8,12 @@ use Rattle.trees.specs.declared.op.Op.TheVariants as op
 use Rattle.trees.specs.Trees.{Tree, Trees, Var, Make, NoTrees, More}
 use Rattle.trees.specs.Judgements.{Context, Judgement}
 use Rattle.trees.specs.Language.{TyEq, TmEq}
-use Rattle.trees.specs.Things.{Thing, ATree, both, consed, meanings}
+use Rattle.trees.specs.Things.{ATree, both, consed}
 use Rattle.rows.specs.Views.{IsContext}
 use Rattle.rows.specs.declared.views.CtxId.{CtxId}
 use Rattle.rows.specs.declared.views.TermId.{TermId}
 use Rattle.side_conditions.specs.Contexts.{context_of}
 use Rattle.side_conditions.specs.Shapes.{tree_of}
-use Rattle.side_conditions.specs.Readings.{IsFaceOf}
-use Rattle.faces.specs.declared.equations.Equation.{Equation}
 use Rattle.fixed_names.specs.Fixed.{Fixed}
 use Rattle.normal_parts.specs.Normal.{Begins, Normal}
 use Rattle.normality.specs.Worlds.{fix_each}
@@ -24,15 +22,19 @@ use Rattle.book.specs.Contents.{Contents}
 use Rattle.book.specs.Shown.{Extends, book_concludes, book_means}
 use Rattle.book_writer.specs.Written.{IsWritten, concluded_by}
 use Rattle.evidence.specs.declared.lines.Evidence.{Evidence}
+use Rattle.evidence.specs.declared.texts.Shown.{Shown}
+use Rattle.evidence.specs.declared.texts.Shown.TheVariants as shown
 use Rattle.evidence.specs.declared.sides.Place.{Place}
 use Rattle.evidence.specs.declared.sides.Side.{Side}
 use Rattle.evidence.specs.declared.sides.Sort.{Sort}
 use Rattle.evidence.specs.declared.sides.Sort.TheVariants as sort
 use Rattle.evidence.specs.Contexts.{IsNormalIn}
-use Rattle.evidence.specs.Evidence.{Equal, types, terms, ShowsFaceOf, ShowsType, ShowsTwo, shown_in}
-use Rattle.evidence.specs.Faces.{ShowsFace, conj_text, line}
+use Rattle.evidence.specs.Evidence.{Equal, types, terms, ShowsFaceOf, shown_in}
+use Rattle.evidence.specs.Faces.{line}
+use Rattle.evidence.specs.Lines.{lines_of}
 use Rattle.evidence.specs.Sides.{IsEquation, IsPlace, IsSide}
-use Rattle.evidence.specs.Told.{AreTwo, IsNormalType, IsOf, IsTypeShown, IsUniverse, TwoShown}
+use Rattle.evidence.specs.Texts.{AreTwoTexts, IsTypeText}
+use Rattle.evidence.specs.Told.{AreShown, AreTwo, IsNormalType, IsOf, IsTypeShown, IsUniverse, TwoShown}
 use Rattle.evidence.proofs.GrowthLaws.{same_context}
 
 -- what one node concludes, or two
@@ -69,9 +71,16 @@ normal_type_is b equation s ctx is of_types at normal =
 
 -- it is shown
 
-pub type_shown : (b : Contents) (G : Context) (equation right : ℕ) (unwanted : Option Op) (old text : List ℕ) (e : Evidence) → (t : IsNormalType b G equation right) → IfSome unwanted (λ o. Begins o (tree_of (book_means b right)) → ⊥) → old ≡ [] → text ≡ old ++ line (codes "type: ") (shown_in G (tree_of (book_means b right))) → IsOf text (TyEq G t.type t.normal ∷ []) e → IsTypeShown unwanted e
-type_shown b G equation right unwanted old text e t other none shown is =
+type_line : (G : Context) (n : Tree) (s : Shown) → IsTypeText G n s → lines_of s ≡ line (codes "type: ") (shown_in G n)
+type_line G n (shown.Type text) is = ap (line (codes "type: ")) is
+type_line G n shown.Nothing is = absurd is
+type_line G n (shown.Two found wanted) is = absurd is
+type_line G n (shown.OnFace face found wanted) is = absurd is
+
+pub type_shown : (b : Contents) (G : Context) (equation right : ℕ) (unwanted : Option Op) (s : Shown) (e : Evidence) → (t : IsNormalType b G equation right) → IfSome unwanted (λ o. Begins o (tree_of (book_means b right)) → ⊥) → IsTypeText G (tree_of (book_means b right)) s → IsOf s (TyEq G t.type t.normal ∷ []) e → IsTypeShown unwanted e
+type_shown b G equation right unwanted s e t other text is =
     let same : tree_of (book_means b right) ≡ t.normal = ap tree_of t.right_is in
+    let shows : IsTypeText G t.normal e.shown = subst (IsTypeText G t.normal) (sym is.shown_is) (subst (λ n. IsTypeText G n s) same text) in
     record {
       context = G;
       normal = t.normal;
@@ -83,8 +92,9 @@ type_shown b G equation right unwanted old text e t other none shown is =
         is_normal = t.is_normal;
         type = t.type;
         derived = refl;
-        shown = is.lines_are ∙ shown ∙ ap (λ o. o ++ line (codes "type: ") (shown_in G (tree_of (book_means b right)))) none ∙ ap (λ n. line (codes "type: ") (shown_in G n)) same;
+        shown = type_line G t.normal e.shown shows;
       };
+      text = shows;
     }
 
 -- a normal tree that begins with it is the universe
@@ -97,8 +107,8 @@ universe_is : (z : Fixed) (n : Tree) → Begins op.U n → Normal z n → n ≡ 
 universe_is z (Var k) begins normal = absurd begins
 universe_is z (Make o kids) begins normal = ap (λ p. Make p kids) begins ∙ universe_alone z kids (subst (λ p. Normal z (Make p kids)) begins normal)
 
-pub universe_shown : (b : Contents) (G : Context) (equation right : ℕ) (text : List ℕ) (e : Evidence) → (t : IsNormalType b G equation right) → Begins op.U (tree_of (book_means b right)) → text ≡ [] → IsOf text (TyEq G t.type t.normal ∷ []) e → IsUniverse e
-universe_shown b G equation right text e t begins none is =
+pub universe_shown : (b : Contents) (G : Context) (equation right : ℕ) (e : Evidence) → (t : IsNormalType b G equation right) → Begins op.U (tree_of (book_means b right)) → IsOf shown.Nothing (TyEq G t.type t.normal ∷ []) e → IsUniverse e
+universe_shown b G equation right e t begins is =
     let same : tree_of (book_means b right) ≡ t.normal = ap tree_of t.right_is in
     let universe : t.normal ≡ Make op.U NoTrees = universe_is (fix_each t.is_normal.names) t.normal (subst (Begins op.U) same begins) t.is_normal.normal in
     record {
@@ -106,7 +116,7 @@ universe_shown b G equation right text e t begins none is =
       type = t.type;
       rows = is.rows;
       written = subst (λ n. IsWritten e.bytes.items is.rows (TyEq G t.type n ∷ [])) universe is.written;
-      lines = is.lines_are ∙ none;
+      shown_is = is.shown_is;
     }
 
 -- two normal right sides that differ
@@ -160,14 +170,37 @@ roots_of b G found wanted left right t = two_roots t.sort G t.one t.other (book_
 
 -- they are shown
 
-pub two_shown : (b : Contents) (G : Context) (found wanted left right : ℕ) (face : Option Tree) (old one two : List ℕ) (e : Evidence) → (t : AreTwo b G found wanted left right) → (roots : TwoRoots G t.one t.other (book_concludes b found) (book_concludes b wanted)) → ShowsFaceOf G face old
-    → one ≡ old ++ line (codes "found: ") (shown_in G (tree_of (book_means b left))) → two ≡ one ++ line (codes "wanted: ") (shown_in G (tree_of (book_means b right)))
-    → IsOf two (roots.first ∷ roots.second ∷ []) e → TwoShown face e
-two_shown b G found wanted left right face old one two e t roots faced first second is =
-    let f = line (codes "found: ") (shown_in G t.one) in
-    let w = line (codes "wanted: ") (shown_in G t.other) in
-    let ones : one ≡ old ++ f = first ∙ ap (λ x. old ++ line (codes "found: ") (shown_in G (tree_of x))) t.left_is in
-    let twos : two ≡ one ++ w = second ∙ ap (λ x. one ++ line (codes "wanted: ") (shown_in G (tree_of x))) t.right_is in
+-- the lines of two trees, with that of a face where there is one
+record TwoLines (face : Option Tree) (G : Context) (found wanted : Tree) (lines : List ℕ) : Type 0 where
+  pub face_text : List ℕ
+  pub face_shown : ShowsFaceOf G face face_text
+  pub shown : lines ≡ face_text ++ (line (codes "found: ") (shown_in G found) ++ line (codes "wanted: ") (shown_in G wanted))
+
+two_lines : (face : Option Tree) (G : Context) (f w : Tree) (s : Shown) → AreTwoTexts face G f w s → TwoLines face G f w (lines_of s)
+two_lines None G f w (shown.Two found wanted) is = record {
+  face_text = [];
+  face_shown = refl;
+  shown = ap₂ (λ (x y : List ℕ). line (codes "found: ") x ++ line (codes "wanted: ") y) is.0 is.1;
+}
+two_lines (Some p) G f w (shown.OnFace face found wanted) is = record {
+  face_text = line (codes "face: ") (string_bytes face);
+  face_shown = (string_bytes face, is.2, refl);
+  shown = ap₂ (λ (x y : List ℕ). line (codes "face: ") (string_bytes face) ++ (line (codes "found: ") x ++ line (codes "wanted: ") y)) is.0 is.1;
+}
+two_lines None G f w shown.Nothing is = absurd is
+two_lines None G f w (shown.Type text) is = absurd is
+two_lines None G f w (shown.OnFace face found wanted) is = absurd is
+two_lines (Some p) G f w shown.Nothing is = absurd is
+two_lines (Some p) G f w (shown.Type text) is = absurd is
+two_lines (Some p) G f w (shown.Two found wanted) is = absurd is
+
+pub two_shown : (b : Contents) (G : Context) (found wanted left right : ℕ) (face : Option Tree) (s : Shown) (e : Evidence) → (t : AreTwo b G found wanted left right) → (roots : TwoRoots G t.one t.other (book_concludes b found) (book_concludes b wanted))
+    → AreTwoTexts face G (tree_of (book_means b left)) (tree_of (book_means b right)) s → IsOf s (roots.first ∷ roots.second ∷ []) e → TwoShown face e
+two_shown b G found wanted left right face s e t roots texts is =
+    let ones = subst (λ (n : Tree). AreTwoTexts face G n (tree_of (book_means b right)) s) (ap tree_of t.left_is) texts in
+    let both : AreTwoTexts face G t.one t.other s = subst (λ (n : Tree). AreTwoTexts face G t.one n s) (ap tree_of t.right_is) ones in
+    let shows : AreTwoTexts face G t.one t.other e.shown = subst (AreTwoTexts face G t.one t.other) (sym is.shown_is) both in
+    let lines = two_lines face G t.one t.other e.shown shows in
     record {
       roots = roots.first ∷ roots.second ∷ [];
       rows = is.rows;
@@ -180,19 +213,17 @@ two_shown b G found wanted left right face old one two e t roots faced first sec
         wanted_normal = t.right_normal;
         differ = t.differ;
         derived = roots.equal;
-        face_text = old;
-        face_shown = faced;
-        shown = is.lines_are ∙ twos ∙ ap (λ o. o ++ w) ones ∙ append_assoc old f w;
+        face_text = lines.face_text;
+        face_shown = lines.face_shown;
+        shown = lines.shown;
       };
+      texts = shows;
     }
 
--- the line of a face that is one conjunction
-pub face_shown : (G : Context) (p : Tree) (face : List (List Equation)) (conj : List Equation) (one text two three : List ℕ) → IsFaceOf G p face → face ≡ conj ∷ [] → one ≡ codes "face: " → text ≡ conj_text conj → two ≡ one ++ text → three ≡ two ++ codes "\n" → ShowsFace G p three
-face_shown G p face conj one text two three is alone label told grown ended = record {
-  conj = conj;
-  face = subst (IsFaceOf G p) alone is;
-  text_is = ended ∙ ap (λ o. o ++ codes "\n") (grown ∙ ap (λ o. o ++ text) label ∙ ap (λ o. codes "face: " ++ o) told) ∙ append_assoc (codes "face: ") (conj_text conj) (codes "\n");
-}
+-- the tree of the face, if a row of one is named
+pub are_shown : (f : TermId → Tree) (face : Option TermId) (e : Evidence) → TwoShown (option_map f face) e → AreShown face e
+are_shown f None e is = is
+are_shown f (Some row) e is = (f row, is)
 
 -- there is what the nodes conclude
 

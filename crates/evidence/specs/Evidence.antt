@@ -1,12 +1,12 @@
 -- What a file derives that is evidence, and what is printed of it.
-use Rattle.std.specs.Prelude.{◌≡◌, ◌≢◌, ◌⊎◌, ℕ, List, [], ◌∷◌, ◌++◌, codes, Option, Some, None}
+use Rattle.std.specs.Prelude.{◌≡◌, ◌≢◌, ℕ, List, [], ◌∷◌, ◌++◌, codes, Option, Some, None}
 use Rattle.trees.specs.Trees.{Tree}
 use Rattle.trees.specs.Judgements.{Context, Judgement}
 use Rattle.trees.specs.Language.{TyEq, TmEq}
 use Rattle.tree_texts.specs.Show.{shown}
 use Rattle.side_conditions.specs.Levels.{count_indices}
 use Rattle.evidence.specs.Contexts.{IsNormalIn}
-use Rattle.evidence.specs.Faces.{ShowsFace, line}
+use Rattle.evidence.specs.Faces.{IsFaceText, line}
 
 abbrev pub shown_in : Context → Tree → List ℕ
 shown_in G = shown (count_indices G)
@@ -26,8 +26,9 @@ pub data Equal (G : Context) (found wanted : Tree) : List Judgement → Type 0 w
 
 -- the line of a face, where there is one
 abbrev pub ShowsFaceOf : Context → Option Tree → List ℕ → Type 0
-ShowsFaceOf G None text = text ≡ []
-ShowsFaceOf G (Some p) text = ShowsFace G p text
+ShowsFaceOf G None lines = lines ≡ []
+ShowsFaceOf G (Some p) lines =
+    (text : List ℕ) × IsFaceText G p text × (lines ≡ line (codes "face: ") text)
 
 -- two trees of a context are equal to these normal ones, which differ and are shown
 pub record ShowsTwo (face : Option Tree) (Js : List Judgement) (lines : List ℕ) : Type 0 where

@@ -20,8 +20,8 @@ conj_text (e ∷ es) = equation_text e ++ conj_text es
 abbrev pub line : List ℕ → List ℕ → List ℕ
 line label text = label ++ (text ++ codes "\n")
 
--- the line of a face of a context, which is that of one conjunction
-pub record ShowsFace (G : Context) (p : Tree) (text : List ℕ) : Type 0 where
+-- the text of a face of a context, which is that of one conjunction
+pub record IsFaceText (G : Context) (p : Tree) (text : List ℕ) : Type 0 where
   pub conj : List Equation
   pub face : IsFaceOf G p (conj ∷ [])
-  pub text_is : text ≡ line (codes "face: ") (conj_text conj)
+  pub text_is : text ≡ conj_text conj

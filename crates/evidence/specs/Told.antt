@@ -1,5 +1,5 @@
 -- What is told of evidence.
-use Rattle.std.specs.Prelude.{◌≡◌, ◌≢◌, ℕ, List, [], ◌∷◌, Option, Some, None, IfSome, string_bytes}
+use Rattle.std.specs.Prelude.{◌≡◌, ◌≢◌, ℕ, List, [], ◌∷◌, Option, Some, None, IfSome}
 use Rattle.trees.specs.declared.op.Op.{Op}
 use Rattle.trees.specs.Language.{TyEq}
 use Rattle.trees.specs.declared.op.Op.TheVariants as op
@@ -13,13 +13,17 @@ use Rattle.book_writer.specs.Written.{IsWritten}
 use Rattle.rows.specs.declared.views.TermId.{TermId}
 use Rattle.evidence.specs.declared.sides.Sort.{Sort}
 use Rattle.evidence.specs.declared.lines.Evidence.{Evidence}
+use Rattle.evidence.specs.declared.texts.Shown.{Shown}
+use Rattle.evidence.specs.declared.texts.Shown.TheVariants as shown
 use Rattle.evidence.specs.Contexts.{IsNormalIn}
 use Rattle.evidence.specs.Evidence.{ShowsType, ShowsTwo}
+use Rattle.evidence.specs.Lines.{lines_of}
 use Rattle.evidence.specs.Sides.{IsEquation}
+use Rattle.evidence.specs.Texts.{AreTwoTexts, IsTypeText}
 
--- these lines, and a file with these roots
-pub record IsOf (lines : List ℕ) (Js : List Judgement) (e : Evidence) : Type 0 where
-  pub lines_are : string_bytes e.lines ≡ lines
+-- this is shown, and there is a file with these roots
+pub record IsOf (texts : Shown) (Js : List Judgement) (e : Evidence) : Type 0 where
+  pub shown_is : e.shown ≡ texts
   pub rows : ℕ
   pub written : IsWritten e.bytes.items rows Js
 
@@ -32,22 +36,24 @@ pub record IsTypeShown (unwanted : Option Op) (e : Evidence) : Type 0 where
   pub roots : List Judgement
   pub rows : ℕ
   pub written : IsWritten e.bytes.items rows roots
-  pub shows : ShowsType context normal roots (string_bytes e.lines)
+  pub shows : ShowsType context normal roots (lines_of e.shown)
+  pub text : IsTypeText context normal e.shown
 
--- it derives that a type is the universe
+-- it derives that a type is the universe, and nothing is shown
 pub record IsUniverse (e : Evidence) : Type 0 where
   pub context : Context
   pub type : Tree
   pub rows : ℕ
   pub written : IsWritten e.bytes.items rows (TyEq context type (Make op.U NoTrees) ∷ [])
-  pub lines : string_bytes e.lines ≡ []
+  pub shown_is : e.shown ≡ shown.Nothing
 
 -- it derives that two trees are equal to two normal ones, which differ and are shown
 pub record TwoShown (face : Option Tree) (e : Evidence) : Type 0 where
   pub roots : List Judgement
   pub rows : ℕ
   pub written : IsWritten e.bytes.items rows roots
-  pub shows : ShowsTwo face roots (string_bytes e.lines)
+  pub shows : ShowsTwo face roots (lines_of e.shown)
+  pub texts : AreTwoTexts face shows.context shows.found shows.wanted e.shown
 
 -- on a face, if a row of one is named
 abbrev pub AreShown : Option TermId → Evidence → Type 0

@@ -1,6 +1,6 @@
-//! Evidence, with the lines that show it.
+//! Evidence, with the texts that show it.
 
-ghost use Rattle.std.specs.Prelude.{◌≡◌, ◌↔◌, IfOk, IsSome, IsTrue, List, Some};
+ghost use Rattle.std.specs.Prelude.{◌≡◌, ◌↔◌, IfOk, IsSome, IsTrue, List, Some, option_map};
 ghost use Rattle.trees.specs.Judgements.{Judgement};
 ghost use Rattle.rows.specs.Views.{IsContext, IsTree};
 ghost use Rattle.rows.specs.declared.views.TermId.{TermId};
@@ -12,11 +12,14 @@ ghost use Rattle.book_writer.specs.Written.{concluded_by};
 ghost use Rattle.evidence.specs.Sides.{IsPlace};
 ghost use Rattle.evidence.specs.Told.{AreShown, AreTwo, IsNormalType, IsOf, IsTypeShown};
 ghost use Rattle.evidence.specs.Told.{IsUniverse};
+ghost use Rattle.evidence.specs.Texts.{AreTwoTexts};
 ghost use Rattle.evidence.specs.declared.lines.Evidence.{Evidence};
+ghost use Rattle.evidence.specs.declared.texts.Shown.{Shown};
 
-use crate::face_lines::face_line;
+use crate::face_texts::face_text;
 use crate::openings::begins_with;
-use crate::sides::{Place, Sort, append_line, is_normal_at, place_of, right_side};
+use crate::sides::{Place, Sort, is_normal_at, place_of, right_side, text_at};
+use crate::texts::Shown;
 use book::{Book, NodeId};
 use book_writer::write;
 use compare::Comparison;
@@ -27,29 +30,26 @@ use theory::{Op, PartKind};
 /// Evidence of a refusal.
 #[derive(Drop, Debug)]
 pub struct Evidence {
-    /// The lines that show it, each with its newline.
-    pub lines: String,
+    /// What is shown of it.
+    pub shown: Shown,
     /// The bytes of the derivation that has it.
     pub bytes: Vec<u8>,
 }
 
-/// Lines, and a file with these roots. None if the lines are no UTF-8, which never comes.
+/// What is shown, and a file with these roots.
 fn with_file(
     alloc: Global,
     book: &Book,
-    lines: Vec<u8>,
+    shown: Shown,
     roots: &[NodeId],
-) -> Result<Option<Evidence>, AllocError>
+) -> Result<Evidence, AllocError>
     requires { IsSome (concluded_by book.now roots.now) }
     ensures { (Js : List Judgement) → concluded_by book.now roots.now ≡ Some Js →
-        IfOk result (λ found. (e : Evidence) → found ≡ Some e → IsOf lines.items Js e) }
+        IfOk result (IsOf shown Js) }
 {
-    let Ok(lines) = String::from_utf8(lines) else {
-        return Ok(None);
-    };
     let mut bytes = Vec::new(alloc);
     let _rows = write(book, alloc, roots, &mut bytes)?;
-    Ok(Some(Evidence { lines, bytes }))
+    Ok(Evidence { shown, bytes })
 }
 
 /// The normal right side of an equation of types, at a place.
@@ -96,9 +96,10 @@ fn type_at(
             return Ok(None);
         }
     }
-    let mut lines = Vec::new(alloc);
-    append_line(alloc, book, place, "type: ", right, &mut lines)?;
-    Ok(with_file(alloc, book, lines, &[equation])?)
+    let Some(text) = text_at(alloc, book, place, right)? else {
+        return Ok(None);
+    };
+    Ok(Some(with_file(alloc, book, Shown::Type(text), &[equation])?))
 }
 
 /// The evidence that a type is the universe, at a place.
@@ -117,7 +118,7 @@ fn universe_at(
     if !begins_with(alloc, book, Op::U, right)? {
         return Ok(None);
     }
-    Ok(with_file(alloc, book, Vec::new(alloc), &[equation])?)
+    Ok(Some(with_file(alloc, book, Shown::Nothing, &[equation])?))
 }
 
 /// The evidence that a type is the universe, of `G >> W = U`. None where that is not what the node
@@ -211,6 +212,47 @@ fn two_sides(
     Ok(Some((left.right, right.right)))
 }
 
+/// What is shown of two trees of a place, on a face if one is named that is one conjunction.
+fn shown_two(
+    alloc: Global,
+    book: &Book,
+    place: &Place,
+    face: Option<TermId>,
+    left: TermId,
+    right: TermId,
+) -> Result<Option<Shown>, AllocError>
+    requires context { IsContext (book_means book.now place.now.ctx.0) }
+    requires place { IsPlace (context_of (book_means book.now place.now.ctx.0)) place.now }
+    requires left { IsTree (book_means book.now left.0) }
+    requires right { IsTree (book_means book.now right.0) }
+    ensures { let f = book_means book.now in
+        let G = context_of (f place.now.ctx.0) in
+        let on = option_map (λ (row : TermId). tree_of (f row.0)) face in
+        IfOk result (λ told. (s : Shown) → told ≡ Some s →
+        AreTwoTexts on G (tree_of (f left.0)) (tree_of (f right.0)) s) }
+{
+    let Some(found) = text_at(alloc, book, place, left)? else {
+        return Ok(None);
+    };
+    let Some(wanted) = text_at(alloc, book, place, right)? else {
+        return Ok(None);
+    };
+    let Some(face) = face else {
+        return Ok(Some(Shown::Two { found, wanted }));
+    };
+    if !book.is_of_kind(face.0, PartKind::Term) {
+        return Ok(None);
+    }
+    let Some(face) = face_text(alloc, book, place.ctx, face)? else {
+        return Ok(None);
+    };
+    Ok(Some(Shown::OnFace {
+        face,
+        found,
+        wanted,
+    }))
+}
+
 /// The evidence that two types, or two terms, are equal to two normal ones that differ, at a place.
 fn two_at(
     alloc: Global,
@@ -227,19 +269,10 @@ fn two_at(
     let Some((left, right)) = two_sides(alloc, book, place, found, wanted)? else {
         return Ok(None);
     };
-    let mut lines = Vec::new(alloc);
-    if let Some(face) = face {
-        if !book.is_of_kind(face.0, PartKind::Term) {
-            return Ok(None);
-        }
-        let Some(line) = face_line(alloc, book, place.ctx, face)? else {
-            return Ok(None);
-        };
-        lines.extend_from_slice(line.as_bytes())?;
-    }
-    append_line(alloc, book, place, "found: ", left, &mut lines)?;
-    append_line(alloc, book, place, "wanted: ", right, &mut lines)?;
-    Ok(with_file(alloc, book, lines, &[found, wanted])?)
+    let Some(shown) = shown_two(alloc, book, place, face, left, right)? else {
+        return Ok(None);
+    };
+    Ok(Some(with_file(alloc, book, shown, &[found, wanted])?))
 }
 
 /// The evidence that two types, or two terms, are equal to two normal ones that differ: what was

@@ -1,13 +1,12 @@
 //! Normal right sides of equations.
 
-ghost use Rattle.std.specs.Prelude.{◌≡◌, ◌++◌, IfOk, IsTrue, OnOk, Some};
+ghost use Rattle.std.specs.Prelude.{◌≡◌, IfOk, IsTrue, Some, string_bytes};
 ghost use Rattle.rows.specs.Views.{IsContext, IsTree};
 ghost use Rattle.side_conditions.specs.Contexts.{context_of};
 ghost use Rattle.side_conditions.specs.Shapes.{tree_of};
 ghost use Rattle.book.specs.Shown.{Extends, book_means};
 ghost use Rattle.evidence.specs.Contexts.{IsNormalIn};
 ghost use Rattle.evidence.specs.Evidence.{shown_in};
-ghost use Rattle.evidence.specs.Faces.{line};
 ghost use Rattle.evidence.specs.Sides.{IsPlace, IsSide};
 ghost use Rattle.evidence.specs.declared.sides.Place.{Place};
 ghost use Rattle.evidence.specs.declared.sides.Side.{Side};
@@ -103,22 +102,22 @@ pub(crate) fn is_normal_at(
     Ok(is_normal_where(alloc, book, &place.fixed, tree)?)
 }
 
-/// Appends a line with the text of a tree of a place.
-pub(crate) fn append_line(
+/// The text of a tree of a place. None if it is no UTF-8, which never comes.
+pub(crate) fn text_at(
     alloc: Global,
     book: &Book,
     place: &Place,
-    label: &str,
     tree: TermId,
-    lines: &mut Vec<u8>,
-) -> Result<(), AllocError>
+) -> Result<Option<String>, AllocError>
     requires place { IsPlace (context_of (book_means book.now place.now.ctx.0)) place.now }
     requires tree { IsTree (book_means book.now tree.0) }
-    ensures { let f = book_means book.now in OnOk result (lines.new.items ≡ lines.old.items
-        ++ line label.now (shown_in (context_of (f place.now.ctx.0)) (tree_of (f tree.0)))) }
+    ensures { let f = book_means book.now in IfOk result (λ found. (text : _) → found ≡ Some text →
+        string_bytes text ≡ shown_in (context_of (f place.now.ctx.0)) (tree_of (f tree.0))) }
 {
-    lines.extend_from_slice(label.as_bytes())?;
-    show(alloc, book, place.level as u64, tree, lines)?;
-    lines.push(b'\n')?;
-    Ok(())
+    let mut bytes = Vec::new(alloc);
+    show(alloc, book, place.level as u64, tree, &mut bytes)?;
+    match String::from_utf8(bytes) {
+        Ok(text) => Ok(Some(text)),
+        Err(_) => Ok(None),
+    }
 }

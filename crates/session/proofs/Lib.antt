@@ -13,3 +13,4 @@ pub mod CheckLaws
 pub mod NormalLaws
 pub mod RunLemmas
 pub mod OneCheckLaws
+mod JsonLaws

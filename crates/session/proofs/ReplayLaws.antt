@@ -45,8 +45,9 @@ pub replay_found : (held : Option Held) (path : List ℕ) (wanted : Option (List
 replay_found held path wanted bytes (outcome.Judged v) h f = (bytes, h, f)
 replay_found held path wanted bytes (outcome.RootDiffers k) h f = (bytes, h, f)
 replay_found held path wanted bytes (outcome.Refused r) h f = (bytes, h, f)
-replay_found held path wanted bytes (outcome.Refuted r lines) h f = (bytes, h, f)
+replay_found held path wanted bytes (outcome.Refuted r shown) h f = (bytes, h, f)
 replay_found held path wanted bytes (outcome.Shown text) h f = (bytes, h, f)
+replay_found held path wanted bytes (outcome.Made text ds k) h f = (bytes, h, f)
 replay_found held path wanted bytes (outcome.Spent turns at told) h f = (bytes, h, f)
 replay_found held path wanted bytes outcome.Usage h f = (bytes, h, f)
 replay_found held path wanted bytes (outcome.Checked n) h f = (bytes, h, f)
@@ -60,8 +61,9 @@ found_counted : (old new : SeenFiles) (wanted : Option (List Judgement)) (bytes 
 found_counted old new wanted bytes (outcome.Judged v) c f = c
 found_counted old new wanted bytes (outcome.RootDiffers k) c f = c
 found_counted old new wanted bytes (outcome.Refused r) c f = c
-found_counted old new wanted bytes (outcome.Refuted r lines) c f = c
+found_counted old new wanted bytes (outcome.Refuted r shown) c f = c
 found_counted old new wanted bytes (outcome.Shown text) c f = c
+found_counted old new wanted bytes (outcome.Made text ds k) c f = c
 found_counted old new wanted bytes (outcome.Spent turns at told) c f = c
 found_counted old new wanted bytes outcome.Usage c f = c
 found_counted old new wanted bytes (outcome.Checked n) c f = c

@@ -3,7 +3,7 @@ use Rattle.std.proofs.Common.{◌≡◌, ◌≢◌, ℕ, List, subst, None, Some
 use Rattle.host_io.specs.Seen.{SeenFiles}
 use Rattle.host_io.specs.declared.files.Stored.{Stored}
 use Rattle.host_io.specs.declared.files.Stored.TheVariants as stored
-use Rattle.command_words.specs.Words.{Command, Check, Replay, Normal}
+use Rattle.command_words.specs.Words.{Command, Check, Replay, Normal, Prompt, Make}
 use Rattle.session.specs.declared.outcome.Outcome.{Outcome}
 use Rattle.session.specs.declared.outcome.Outcome.TheVariants as outcome
 use Rattle.session.specs.declared.job.Job.{Job}
@@ -31,14 +31,18 @@ leaves J name old new told other (done texts codes read job is does) = left text
 
 pub stores : {F : Type 0} (see : F → SeenFiles) (command : Option Command) (One Other : Type 0) (old new : F) (told : Outcome) → MayAnswer command (see old) (see new) told → (Other → told ≢ outcome.WriteFault) → MayStore see command One old new → MayStore see command Other old new
 stores see None One Other old new told may spared stored = stored
-stores see (Some (Check name turns)) One Other old new told may spared stored = λ spent. leaves (CheckJob name turns) name (see old) (see new) told (spared spent) may.0
+stores see (Some (Check name turns json)) One Other old new told may spared stored = λ spent. leaves (CheckJob name turns) name (see old) (see new) told (spared spent) may.0
+stores see (Some (Prompt name turns)) One Other old new told may spared stored = stored
+stores see (Some (Make count)) One Other old new told may spared stored = stored
 stores see (Some (Normal name part turns)) One Other old new told may spared stored = λ spent. leaves (NormalJob name part turns) name (see old) (see new) told (spared spent) may.0
 stores see (Some (Replay path of)) One Other old new told may spared stored = stored
 
 -- the less often it is out of memory, the less is asked
 pub stores_less : {F : Type 0} (see : F → SeenFiles) (command : Option Command) (One Other : Type 0) (old new : F) → (Other → One) → MayStore see command One old new → MayStore see command Other old new
 stores_less see None One Other old new less stored = stored
-stores_less see (Some (Check name turns)) One Other old new less stored = λ spent. stored (less spent)
+stores_less see (Some (Check name turns json)) One Other old new less stored = λ spent. stored (less spent)
+stores_less see (Some (Prompt name turns)) One Other old new less stored = stored
+stores_less see (Some (Make count)) One Other old new less stored = stored
 stores_less see (Some (Normal name part turns)) One Other old new less stored = λ spent. stored (less spent)
 stores_less see (Some (Replay path of)) One Other old new less stored = stored
 

@@ -1,6 +1,7 @@
 -- What a command may answer, and what is then printed.
-use Rattle.std.specs.Prelude.{◌≡◌, ◌≢◌, ◌⊎◌, ℕ, List, [], length, None, Some}
+use Rattle.std.specs.Prelude.{◌≡◌, ◌≢◌, ◌⊎◌, ℕ, false, List, [], length, None, Some}
 use Rattle.std.specs.Prelude.{string_bytes, Option}
+use Rattle.std.specs.Prelude.{Bool, false}
 use Rattle.host_io.specs.Files.{Held, HoldsAt}
 use Rattle.host_io.specs.Seen.{SeenFiles, SeenSource, SeenSink}
 use Rattle.trees.specs.Judgements.{Judgement}
@@ -12,8 +13,9 @@ use Rattle.session.specs.declared.outcome.Status.{Status}
 use Rattle.session.specs.declared.outcome.Status.TheVariants as status
 use Rattle.session.specs.declared.outcome.Outcome.{Outcome}
 use Rattle.session.specs.declared.outcome.Outcome.TheVariants as outcome
-use Rattle.command_words.specs.Words.{Command, Check, Replay, Normal}
+use Rattle.command_words.specs.Words.{Command, Check, Replay, Normal, Prompt, Make}
 use Rattle.session.specs.Outcomes.{plain_text, status_of, IsCounted, StoresNothing}
+use Rattle.session.specs.Json.{text_in}
 use Rattle.session.specs.Modules.{DifferAt, NotLoaded, NotResolved, Spells}
 use Rattle.module_texts.specs.Texts.{Text}
 use Rattle.resolver.specs.declared.resolving.Codes.{Codes}
@@ -23,6 +25,7 @@ use Rattle.session.specs.Loaded.{IsRead}
 use Rattle.session.specs.Jobs.{MayDo, MayLeave}
 use Rattle.session.specs.Checks.{CheckJob}
 use Rattle.session.specs.Normals.{NormalJob}
+use Rattle.session.specs.Makes.{Makes}
 use Rattle.session.specs.Writes.{WrittenWhole, CutOff}
 
 -- A text was printed whole, with its status, or a write failed and not all of it went out.
@@ -62,14 +65,17 @@ abbrev pub MayReplay : Option Held → List ℕ → Option (List ℕ) → Outcom
 MayReplay held path None result = IsReplayed held path None result
 MayReplay held path (Some name) result = MayReplayOf held path name result
 
--- when a command may end so; words that are no command have one answer
+-- When a command may end so; words that are no command have one answer, and so far those of
+-- `prompt`.
 abbrev pub MayAnswer : Option Command → SeenFiles → SeenFiles → Outcome → Type 0
-MayAnswer (Some (Check name turns)) old new result =
+MayAnswer (Some (Check name turns json)) old new result =
     MayDo (CheckJob name turns) name old new result × IsCounted old new result
 MayAnswer (Some (Normal name part turns)) old new result =
     MayDo (NormalJob name part turns) name old new result × IsCounted old new result
 MayAnswer (Some (Replay path of)) old new result =
     MayReplay old.held path of result × IsCounted old new result
+MayAnswer (Some (Prompt name turns)) old new result = result ≡ outcome.Usage
+MayAnswer (Some (Make count)) old new result = Makes count result
 MayAnswer None old new result = result ≡ outcome.Usage
 
 -- files, an input and an output
@@ -85,20 +91,28 @@ world files input out = record { files = files; input = input; out = out }
 abbrev pub Seen : Type 0
 Seen = World SeenFiles SeenSource SeenSink
 
+-- whether a command is answered in JSON
+abbrev pub wants_json : Option Command → Bool
+wants_json (Some (Check name turns json)) = json
+wants_json _ = false
+
 -- the command ended, and its text was printed
 pub record Answered (command : Option Command) (old new : Seen) (result : Status) : Type 0 where
   pub outcome : Outcome
   pub may : MayAnswer command old.files new.files outcome
-  pub printed : Printed (plain_text outcome) (status_of outcome) old.out new.out result
+  pub printed : Printed (text_in (wants_json command) outcome) (status_of outcome)
+      old.out new.out result
 
 -- What a command may do to the files, where what it answers does not say it: one that stores and
 -- was out of memory; words that are no command leave them alone.
 abbrev pub MayStore : {F : Type 0} → (F → SeenFiles) → Option Command → Type 0 → F → F → Type 0
-MayStore see (Some (Check name turns)) OutOfMemory old new =
+MayStore see (Some (Check name turns json)) OutOfMemory old new =
     OutOfMemory → MayLeave (CheckJob name turns) name (see old) (see new)
 MayStore see (Some (Normal name part turns)) OutOfMemory old new =
     OutOfMemory → MayLeave (NormalJob name part turns) name (see old) (see new)
 MayStore see (Some (Replay path of)) OutOfMemory old new = StoresNothing (see old) (see new)
+MayStore see (Some (Prompt name turns)) OutOfMemory old new = new ≡ old
+MayStore see (Some (Make count)) OutOfMemory old new = new ≡ old
 MayStore see None OutOfMemory old new = new ≡ old
 
 -- A command ran: how files, inputs and outputs are seen, the command, both worlds, and the status.

@@ -53,7 +53,7 @@ pub record IsRefuted (name : List ℕ) (texts : List Text) (defs : List CodeDef)
   pub evidence : Evidence
   pub evidence_is : IsEvidence why evidence
   pub bytes_are : evidence.bytes.items ≡ bytes
-  pub is_told : told ≡ outcome.Refuted refusal evidence.lines
+  pub is_told : told ≡ outcome.Refuted refusal evidence.shown
 
 -- What is told where nothing is stored: one is not direct.
 pub data NotStored (texts : List Text) (defs : List CodeDef) (turns : ℕ) (told : Outcome) :

@@ -1,6 +1,7 @@
 pub mod Writes
 pub mod Refusals
 pub mod Outcomes
+pub mod Json
 pub mod Modules
 pub mod Loaded
 pub mod Jobs
@@ -10,4 +11,5 @@ pub mod Refutals
 pub mod Others
 pub mod Checks
 pub mod Normals
+pub mod Makes
 pub mod Answers

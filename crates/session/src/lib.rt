@@ -10,6 +10,8 @@
 mod check_command;
 mod found;
 mod job;
+mod json_answers;
+mod make_command;
 mod normal_command;
 mod others;
 mod outcome;

@@ -93,10 +93,10 @@ fn refuted_job(
             let refusal = refusal_at(alloc, program, place, Cause::CannotInfer)?;
             Ok(Job::Tell(Outcome::Refused(refusal)))
         }
-        Refutal::Shown(cause, Evidence { lines, bytes }) => {
+        Refutal::Shown(cause, Evidence { shown, bytes }) => {
             let refusal = refusal_at(alloc, program, place, cause)?;
             let path = evidence_path(alloc, name)?;
-            let told = Outcome::Refuted(refusal, lines);
+            let told = Outcome::Refuted(refusal, shown);
             Ok(Job::Store { path, bytes, told })
         }
     }

@@ -1,11 +1,12 @@
 //! How commands end, the texts of that and the statuses.
 
-ghost use Rattle.std.specs.Prelude.{◌≡◌, IfOk, IsOk};
+ghost use Rattle.std.specs.Prelude.{◌≡◌, IfOk, IsOk, string_bytes};
 ghost use Rattle.std.specs.Cow.{cow_str_bytes};
 ghost use Rattle.session.specs.Answers.{OneVerdict, OneAnswer, OneCheck};
-ghost use Rattle.session.specs.Outcomes.{plain_text, status_of};
+ghost use Rattle.session.specs.Outcomes.{made_text, plain_text, status_of};
 
 use crate::refusal::Refusal;
+use evidence::Shown;
 use replay::Verdict;
 use std::alloc::{AllocError, Global};
 use std::borrow::CowStr;
@@ -36,8 +37,8 @@ pub(crate) enum Outcome {
     RootDiffers(u64),
     /// A module is refused.
     Refused(Refusal),
-    /// A definition is refused, with the lines that show why.
-    Refuted(Refusal, String),
+    /// A definition is refused, with the texts that show why.
+    Refuted(Refusal, Shown),
     /// The file at the path is not there.
     MissingFile(String),
     /// A file could not be read.
@@ -46,9 +47,20 @@ pub(crate) enum Outcome {
     Checked(u64),
     /// The text of a normal form, with its newline.
     Shown(String),
+    /// The text of a module that was made, how many definitions it has, and how many roots of their
+    /// derivation were judged right.
+    Made {
+        text: String,
+        definitions: u64,
+        roots: u64,
+    },
     /// A question reached its budget, in moves, which was asked of the form at this byte of the
     /// file at the path.
-    Spent { turns: u64, at: u32, path: String },
+    Spent {
+        turns: u64,
+        at: u32,
+        path: String,
+    },
     /// A file could not be stored.
     WriteFault,
     /// The words are no command.
@@ -58,6 +70,13 @@ pub(crate) enum Outcome {
 /// It names the commands of the whole program, also those that are not built yet.
 const USAGE: &str = "usage: ctt check MODULE [--turns N] [--json] | replay FILE [--of MODULE] | \
      normal MODULE NAME [--turns N] | prompt MODULE [--turns N] | make N\n";
+
+/// The text of a module that was made, and how it was judged.
+fn made_text(alloc: Global, text: &str, definitions: u64, roots: u64) -> Result<String, AllocError>
+    ensures { IfOk result (λ shown. string_bytes shown ≡ made_text text.now definitions roots) }
+{
+    format!(in alloc; "{text}yes: {definitions} definitions\nreplayed: {roots} roots\n")
+}
 
 impl Outcome {
     /// The status once the text is printed.
@@ -74,6 +93,11 @@ impl Outcome {
             Outcome::ReadFault => Status::Fault,
             Outcome::Checked(_) => Status::Yes,
             Outcome::Shown(_) => Status::Yes,
+            Outcome::Made {
+                text: _,
+                definitions: _,
+                roots: _,
+            } => Status::Yes,
             Outcome::Spent {
                 turns: _,
                 at: _,
@@ -100,14 +124,20 @@ impl Outcome {
             Outcome::Judged(Verdict::No { row }) => format!(in alloc; "no: row {row}\n")?,
             Outcome::RootDiffers(root) => format!(in alloc; "no: root {root}\n")?,
             Outcome::Refused(refusal) => refusal.text(alloc)?,
-            Outcome::Refuted(refusal, lines) => {
+            Outcome::Refuted(refusal, shown) => {
                 let mut text = refusal.text(alloc)?;
+                let lines = shown.text(alloc)?;
                 text.push_str(lines.as_str())?;
                 text
             }
             Outcome::MissingFile(path) => format!(in alloc; "no: MissingFile in {path}\n")?,
             Outcome::Checked(count) => format!(in alloc; "yes: {count} definitions\n")?,
             Outcome::Shown(text) => String::from_str(alloc, text.as_str())?,
+            Outcome::Made {
+                text,
+                definitions,
+                roots,
+            } => made_text(alloc, text.as_str(), *definitions, *roots)?,
             Outcome::Spent { turns, at, path } => {
                 format!(in alloc; "spent: {turns} at {at} in {path}\n")?
             }

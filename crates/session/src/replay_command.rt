@@ -15,7 +15,11 @@ use replay::{Verdict, judge};
 use std::alloc::{AllocError, Global};
 
 /// Judges the bytes of a derivation file, of this module if one is named.
-fn judged(alloc: Global, bytes: &[u8], of: Option<&Program>) -> Result<Outcome, AllocError>
+pub(crate) fn judged(
+    alloc: Global,
+    bytes: &[u8],
+    of: Option<&Program>,
+) -> Result<Outcome, AllocError>
     ensures { IfOk result (IsFound bytes.now (wanted_by (codes_of of.entry))) }
 {
     let judged = judge(alloc, bytes)?;

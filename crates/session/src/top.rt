@@ -2,12 +2,16 @@
 
 ghost use Rattle.std.specs.Prelude.{◌≡◌, ◌≢◌, [], IfOk, IsErr};
 ghost use Rattle.host_io.specs.Seen.{seen_files, seen_source, seen_sink};
-ghost use Rattle.session.specs.Answers.{MayAnswer, MayStore, Printed, Ran, world};
-ghost use Rattle.session.specs.Outcomes.{plain_text, status_of};
+ghost use Rattle.std.specs.Option.{option_map};
+ghost use Rattle.session.specs.Answers.{MayAnswer, MayStore, Printed, Ran, wants_json, world};
+ghost use Rattle.session.specs.Json.{text_in};
+ghost use Rattle.session.specs.Outcomes.{status_of};
+ghost use Rattle.command_words.specs.Read.{command_read};
 ghost use Rattle.command_words.specs.Words.{command, texts};
 ghost use Rattle.session.specs.Writes.{Wrote, WroteSome};
 
 use crate::check_command::check;
+use crate::make_command::make;
 use crate::normal_command::{Asked, normal};
 use crate::outcome::{Outcome, Status};
 use crate::replay_command::replay;
@@ -43,15 +47,15 @@ fn write_text<O: Sink>(out: &mut O, text: &[u8]) -> Result<(), WriteFault>
     Ok(())
 }
 
-/// Prints the outcome, and gives the status to end with.
-fn print<O: Sink>(alloc: Global, outcome: &Outcome, out: &mut O) -> Status
+/// Prints the outcome, in JSON if that is asked, and gives the status to end with.
+fn print<O: Sink>(alloc: Global, outcome: &Outcome, json: bool, out: &mut O) -> Status
     ensures printed { let see = seen_sink O.taken O.faults in
-        result ≢ Status.Memory → Printed (plain_text outcome.now) (status_of outcome.now)
+        result ≢ Status.Memory → Printed (text_in json outcome.now) (status_of outcome.now)
         (see out.old) (see out.new) result }
     ensures memory { result ≡ Status.Memory → out.new ≡ out.old }
     ensures spared { result ≡ Status.Memory → outcome.now ≢ Outcome.WriteFault }
 {
-    match outcome.text(alloc) {
+    match outcome.text_in(alloc, json) {
         Ok(text) => match write_text(out, text.as_bytes()) {
             Ok(()) => outcome.status(),
             Err(_) => Status::Fault,
@@ -60,35 +64,61 @@ fn print<O: Sink>(alloc: Global, outcome: &Outcome, out: &mut O) -> Status
     }
 }
 
-/// Does what the words ask for, but for printing. The only error is out of memory.
+/// Whether a command is answered in JSON.
+fn is_json(command: Option<Command<'_>>) -> bool
+    ensures { result ≡ wants_json (option_map command_read command.entry) }
+{
+    match command {
+        Some(
+            Command::Check {
+                module: _,
+                turns: _,
+                json,
+            },
+        ) => json,
+        _ => false,
+    }
+}
+
+/// Does what a command asks for, but for printing. The only error is out of memory.
 fn outcome_of<F: Files>(
     alloc: Global,
-    words: &[String],
+    command: Option<Command<'_>>,
     files: &mut F,
 ) -> Result<Outcome, AllocError>
     ensures answer { let see = seen_files F.held F.counts in
-        IfOk result (MayAnswer (command (texts words.now)) (see files.old) (see files.new)) }
-    ensures stored { MayStore (seen_files F.held F.counts) (command (texts words.now))
+        IfOk result
+        (MayAnswer (option_map command_read command.entry) (see files.old) (see files.new)) }
+    ensures stored { MayStore (seen_files F.held F.counts) (option_map command_read command.entry)
         (IsErr result) files.old files.new }
 {
-    match command_of(alloc, words)? {
-        Some(Command::Check { module, turns }) => Ok(check(alloc, module, turns, files)?),
-        Some(Command::Replay { file, of }) => Ok(replay(alloc, file, of, files)?),
-        Some(
-            Command::Normal {
-                module,
-                name,
-                turns,
-            },
-        ) => {
+    let Some(command) = command else {
+        return Ok(Outcome::Usage);
+    };
+    match command {
+        Command::Check {
+            module,
+            turns,
+            json: _,
+        } => check(alloc, module, turns, files),
+        Command::Replay { file, of } => replay(alloc, file, of, files),
+        Command::Normal {
+            module,
+            name,
+            turns,
+        } => {
             let asked = Asked {
                 module_name: module,
                 name,
                 turns,
             };
-            Ok(normal(alloc, asked, files)?)
+            normal(alloc, asked, files)
         }
-        None => Ok(Outcome::Usage),
+        Command::Make { count } => make(alloc, count),
+        Command::Prompt {
+            module: _,
+            turns: _,
+        } => Ok(Outcome::Usage),
     }
 }
 
@@ -105,8 +135,12 @@ pub fn run<F: Files, I: Source, O: Sink>(
         (seen_sink O.taken O.faults) (command (texts words.now))
         (world files.old input.old out.old) (world files.new input.new out.new) result }
 {
-    match outcome_of(alloc, words, files) {
-        Ok(outcome) => print(alloc, &outcome, out),
+    let command = match command_of(alloc, words) {
+        Ok(command) => command,
+        Err(_) => return Status::Memory,
+    };
+    match outcome_of(alloc, command, files) {
+        Ok(outcome) => print(alloc, &outcome, is_json(command), out),
         Err(_) => Status::Memory,
     }
 }

@@ -1,4 +1,3 @@
-use Rattle.std.proofs.Common.{◌≡◌, ◌≤◌, ◌<◌, ◌^◌, arith}
 use Rattle.command_words.proofs.NumberLaws.{found, not_found}
 use Rattle.command_words.proofs.numbers.number_within.Goals as goal
 

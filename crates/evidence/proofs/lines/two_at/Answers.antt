@@ -1,23 +1,21 @@
-use Rattle.std.proofs.Common.{◌≡◌, [], ◌∷◌, ◌∙◌, ap, rules, subst, sym, get_or, Option, Some, None, string_bytes}
-use Rattle.trees.specs.Trees.{Tree}
+use Rattle.std.proofs.Common.{◌≡◌, [], ◌∷◌, get_or, subst}
+use Rattle.std.specs.Prelude.{option_map}
+use Rattle.rows.specs.declared.views.TermId.{TermId}
 use Rattle.side_conditions.specs.Contexts.{context_of}
 use Rattle.side_conditions.specs.Shapes.{tree_of}
 use Rattle.book.specs.declared.kernel.NodeId.{NodeId}
 use Rattle.book.specs.Shown.{book_means}
-use Rattle.evidence.specs.Evidence.{ShowsFaceOf}
-use Rattle.evidence.specs.Faces.{ShowsFace}
-use Rattle.evidence.specs.Told.{AreShown, TwoShown}
-use Rattle.evidence.proofs.LineLaws.{concluded_two, roots_of, two_shown, two_there}
-use Rattle.evidence.proofs.lines.two_at.Goals.{in-Some-face+else-not-is_of_kind+in_ok-line+in-Some-2+in_ok-extend_from_slice, in_default-face}
+use Rattle.evidence.specs.Told.{IsOf}
+use Rattle.evidence.proofs.LineLaws.{are_shown, concluded_two, roots_of, two_shown, two_there}
 use Rattle.evidence.proofs.lines.two_at.Goals as goal
 
-pub append_line-requires-clause-tree : goal.append_line-requires-clause-tree
-append_line-requires-clause-tree c =
+pub shown_two-requires-clause-left : goal.shown_two-requires-clause-left
+shown_two-requires-clause-left c =
     let t = c.in_ok-left.ensures c.in-Some.left c.in-Some.right c.in-Some.is in
     (t.one, t.left_is)
 
-pub append_line-requires-2-clause-tree : goal.append_line-requires-2-clause-tree
-append_line-requires-2-clause-tree c =
+pub shown_two-requires-clause-right : goal.shown_two-requires-clause-right
+shown_two-requires-clause-right c =
     let t = c.in_ok-left.ensures c.in-Some.left c.in-Some.right c.in-Some.is in
     (t.other, t.right_is)
 
@@ -39,16 +37,10 @@ returns c = λ e is.
     let wanted : NodeId = get_or c.args.equations 1 (record { 0 = 0 }) in
     let t = c.in_ok-left.ensures c.in-Some.left c.in-Some.right c.in-Some.is in
     let roots = roots_of book G found.0 wanted.0 c.in-Some.left.0 c.in-Some.right.0 t in
-    let told = c.in_ok-with_file.ensures (roots.first ∷ roots.second ∷ []) (concluded_two book found wanted roots.first roots.second roots.first_is roots.second_is) e is in
-    let text = c.match-face.lines.items in
-    let shown : (face : Option Tree) → ShowsFaceOf G face text → TwoShown face e = λ face faced.
-    two_shown book G found.0 wanted.0 c.in-Some.left.0 c.in-Some.right.0 face text c.append_line.new.lines.items c.append_line-2.new.lines.items e t roots faced c.in_ok-append_line.ensures c.in_ok-append_line-2.ensures told in
-    elim c.match-face.branch [
-      | in-Some-face+else-not-is_of_kind+in_ok-line+in-Some-2+in_ok-extend_from_slice w ↦
-          let p = tree_of (book_means book w.in-Some-face.face.0) in
-          let same : string_bytes w.in-Some-2.line ≡ text = search rules in
-          subst (λ face. AreShown face e) (sym w.in-Some-face.is) (p, shown (Some p) (subst (ShowsFace G p) same (w.in_ok-line.ensures w.in-Some-2.line w.in-Some-2.is)))
-      | in_default-face w ↦
-          let none : c.args.face ≡ None = search rules in
-          subst (λ face. AreShown face e) (sym none) (shown None (ap (λ lines. lines.items) w.lines-is ∙ c.new-lines.ensures.items))
-    ]
+    let Js = roots.first ∷ roots.second ∷ [] in
+    let same : c.in_ok-with_file.field-0 ≡ e = cc in
+    let told = subst (IsOf c.in-Some-2.shown Js) same (c.in_ok-with_file.ensures Js (concluded_two book found wanted roots.first roots.second roots.first_is roots.second_is)) in
+    let tree = λ (row : TermId). tree_of (book_means book row.0) in
+    let texts = c.in_ok-shown.ensures c.in-Some-2.shown c.in-Some-2.is in
+    are_shown tree c.args.face e
+    (two_shown book G found.0 wanted.0 c.in-Some.left.0 c.in-Some.right.0 (option_map tree c.args.face) c.in-Some-2.shown e t roots texts told)

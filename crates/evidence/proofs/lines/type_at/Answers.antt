@@ -1,4 +1,4 @@
-use Rattle.std.proofs.Common.{[], ◌∷◌, ◌∙◌, rules, subst, sym, Option}
+use Rattle.std.proofs.Common.{◌≡◌, [], ◌∷◌, ◌∙◌, rules, subst, sym}
 use Rattle.std.specs.Prelude.{IfSome}
 use Rattle.std.proofs.lemmas.Bool.{true≢false}
 use Rattle.side_conditions.specs.Shapes.{tree_of}
@@ -7,6 +7,8 @@ use Rattle.evidence.proofs.lines.type_at.Goals.{in-Some-unwanted+in_ok-begins_wi
 use Rattle.trees.specs.Language.{TyEq}
 use Rattle.side_conditions.specs.Contexts.{context_of}
 use Rattle.book.specs.Shown.{book_means}
+use Rattle.evidence.specs.declared.texts.Shown.TheVariants as shown
+use Rattle.evidence.specs.Told.{IsOf}
 use Rattle.evidence.proofs.LineLaws.{one_there, type_shown, concluded_one}
 use Rattle.evidence.proofs.lines.type_at.Goals as goal
 
@@ -15,8 +17,8 @@ begins_with-requires c =
     let t = c.in_ok-right.ensures c.in-Some.right c.in-Some.is in
     (t.normal, t.right_is)
 
-pub append_line-requires-clause-tree : goal.append_line-requires-clause-tree
-append_line-requires-clause-tree c =
+pub text_at-requires-clause-tree : goal.text_at-requires-clause-tree
+text_at-requires-clause-tree c =
     let t = c.in_ok-right.ensures c.in-Some.right c.in-Some.is in
     (t.normal, t.right_is)
 
@@ -31,9 +33,12 @@ returns c = λ e is.
     let G = context_of (book_means book c.args.place.now.ctx.0) in
     let n = tree_of (book_means book c.in-Some.right.0) in
     let t = c.in_ok-right.ensures c.in-Some.right c.in-Some.is in
-    let told = c.in_ok-with_file.ensures (TyEq G t.type t.normal ∷ []) (concluded_one book c.args.equation (TyEq G t.type t.normal) t.equation_is) e is in
+    let Js = TyEq G t.type t.normal ∷ [] in
+    let shows = shown.Type c.in-Some-2.text in
+    let same : c.in_ok-with_file.field-0 ≡ e = cc in
+    let told = subst (IsOf shows Js) same (c.in_ok-with_file.ensures Js (concluded_one book c.args.equation (TyEq G t.type t.normal) t.equation_is)) in
     let other : IfSome c.args.unwanted (λ o. Begins o n → ⊥) = elim c.match-unwanted.branch [
       | in-Some-unwanted+in_ok-begins_with+else-branch w ↦ subst (λ found. IfSome found (λ o. Begins o n → ⊥)) (sym w.in-Some-unwanted.is) (λ b. true≢false (sym (w.in_ok-begins_with.ensures.1 b) ∙ w.if-branch.false))
       | in_default-unwanted w ↦ search rules
     ] in
-    type_shown book G c.args.equation.0 c.in-Some.right.0 c.args.unwanted c.new-lines.result.items c.append_line.new.lines.items e t other c.new-lines.ensures.items c.in_ok-append_line.ensures told
+    type_shown book G c.args.equation.0 c.in-Some.right.0 c.args.unwanted shows e t other (c.in_ok-text.ensures c.in-Some-2.text c.in-Some-2.is) told

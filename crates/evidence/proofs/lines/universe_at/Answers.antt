@@ -1,7 +1,9 @@
-use Rattle.std.proofs.Common.{[], ◌∷◌}
+use Rattle.std.proofs.Common.{◌≡◌, [], ◌∷◌, subst}
 use Rattle.trees.specs.Language.{TyEq}
 use Rattle.side_conditions.specs.Contexts.{context_of}
 use Rattle.book.specs.Shown.{book_means}
+use Rattle.evidence.specs.declared.texts.Shown.TheVariants as shown
+use Rattle.evidence.specs.Told.{IsOf}
 use Rattle.evidence.proofs.LineLaws.{one_there, universe_shown, concluded_one}
 use Rattle.evidence.proofs.lines.universe_at.Goals as goal
 
@@ -20,5 +22,7 @@ returns c = λ e is.
     let book = c.args.book.now in
     let G = context_of (book_means book c.args.place.now.ctx.0) in
     let t = c.in_ok-right.ensures c.in-Some.right c.in-Some.is in
-    let told = c.in_ok-with_file.ensures (TyEq G t.type t.normal ∷ []) (concluded_one book c.args.equation (TyEq G t.type t.normal) t.equation_is) e is in
-    universe_shown book G c.args.equation.0 c.in-Some.right.0 c.new.result.items e t (c.in_ok-begins_with.ensures.0 c.if-not-branch.false) c.new.ensures.items told
+    let Js = TyEq G t.type t.normal ∷ [] in
+    let same : c.in_ok-with_file.field-0 ≡ e = cc in
+    let told = subst (IsOf shown.Nothing Js) same (c.in_ok-with_file.ensures Js (concluded_one book c.args.equation (TyEq G t.type t.normal) t.equation_is)) in
+    universe_shown book G c.args.equation.0 c.in-Some.right.0 e t (c.in_ok-begins_with.ensures.0 c.if-not-branch.false) told

@@ -5,7 +5,7 @@ ghost use Rattle.rows.specs.Views.{IsContext, IsTree};
 ghost use Rattle.side_conditions.specs.Contexts.{context_of};
 ghost use Rattle.side_conditions.specs.Shapes.{tree_of};
 ghost use Rattle.book.specs.Shown.{book_means};
-ghost use Rattle.evidence.specs.Faces.{ShowsFace, conj_text, equation_text};
+ghost use Rattle.evidence.specs.Faces.{IsFaceText, conj_text, equation_text};
 
 use book::Book;
 use faces::Equation;
@@ -35,8 +35,8 @@ fn conj_text(alloc: Global, conj: &[Equation]) -> Result<String, AllocError>
     Ok(text)
 }
 
-/// The line of a face of a context, if it is one conjunction of names at ends.
-pub(crate) fn face_line(
+/// The text of a face of a context, if it is one conjunction of names at ends.
+pub(crate) fn face_text(
     alloc: Global,
     book: &Book,
     ctx: CtxId,
@@ -44,20 +44,15 @@ pub(crate) fn face_line(
 ) -> Result<Option<String>, AllocError>
     requires context { IsContext (book_means book.now ctx.0) }
     requires face { IsTree (book_means book.now face.0) }
-    ensures { let f = book_means book.now in IfOk result (λ found. (line : _) → found ≡ Some line →
-        ShowsFace (context_of (f ctx.0)) (tree_of (f face.0)) (string_bytes line)) }
+    ensures { let f = book_means book.now in IfOk result (λ found. (text : _) → found ≡ Some text →
+        IsFaceText (context_of (f ctx.0)) (tree_of (f face.0)) (string_bytes text)) }
 {
     let faces = book.context_faces(ctx)?;
     let Some(face) = faces.face_of(book, face)? else {
         return Ok(None);
     };
     match face.parts() {
-        [conj] => {
-            let mut line = String::from_str(alloc, "face: ")?;
-            line.push_str(conj_text(alloc, conj.elements())?.as_str())?;
-            line.push_str("\n")?;
-            Ok(Some(line))
-        }
+        [conj] => Ok(Some(conj_text(alloc, conj.elements())?)),
         [] => Ok(None),
         [_, _, ..] => Ok(None),
     }

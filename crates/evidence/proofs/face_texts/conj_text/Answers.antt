@@ -1,6 +1,6 @@
 use Rattle.evidence.proofs.FaceLaws.{conj_more}
-use Rattle.std.proofs.Common.{◌≡◌, ◌∙◌, ◌++◌, ap, string_bytes}
-use Rattle.evidence.proofs.face_lines.conj_text.Goals as goal
+use Rattle.std.proofs.Common.{◌∙◌, ◌++◌, ap, string_bytes}
+use Rattle.evidence.proofs.face_texts.conj_text.Goals as goal
 
 pub loop-equation-preserved : goal.loop-equation-preserved
 loop-equation-preserved c =

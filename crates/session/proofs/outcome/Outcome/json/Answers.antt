@@ -1,0 +1,11 @@
+use Rattle.std.proofs.Common.{◌≡◌, ◌∙◌, ap, codes, refl, sym}
+use Rattle.json.specs.Print.{escape_byte}
+use Rattle.session.specs.Json.{json_text}
+use Rattle.session.specs.declared.outcome.Outcome.TheVariants as outcome
+use Rattle.session.proofs.outcome.Outcome.json.Goals as goal
+
+pub returns-in-WriteFault-clause-text : goal.returns-in-WriteFault-clause-text
+unfolding escape_byte
+returns-in-WriteFault-clause-text c =
+    let is : codes "{\"answer\":\"fault\",\"cause\":\"WriteFault\"}\n" ≡ json_text outcome.WriteFault = refl in
+    is ∙ ap json_text (sym c.in-WriteFault.is)
