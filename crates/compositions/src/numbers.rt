@@ -61,7 +61,7 @@ fn number_before(book: &mut Book, head: Goal) -> Result<NodeId, Fault> {
     term_under(book, head.susp.sub, number)
 }
 
-/// What the side is, where the next conjunction of the face is true.
+/// What the side is, where the conjunction at a place of the face is true.
 fn ask_side(alloc: Global, book: &mut Book, sides: Sides) -> Result<Settled, Fault> {
     let numbers = numbers_of(book, sides.goal)?;
     let inner = context_of(alloc, book, numbers.side)?;
@@ -118,6 +118,21 @@ fn suc_over_nothing(book: &mut Book, goal: Goal, base: Goal) -> Result<Settled, 
     Ok(Settled::Fired(rebuilt(book, goal, equal, None, term)?))
 }
 
+/// The place of the first conjunction of the face from this one on that is true somewhere, if there
+/// is one. The side may be any number where the others are.
+fn live_conjunction(book: &mut Book, goal: Goal, from: usize) -> Result<Option<usize>, Fault> {
+    let ctx = goal.susp.ctx;
+    let face = part_of(book, goal.susp.typing, 2)?;
+    let count = count_conjunctions(book, ctx, face)?;
+    for at in from..count {
+        let face = conjunction(book, ctx, face, at, 0)?;
+        if !always_false(book, ctx, face)? {
+            return Ok(Some(at));
+        }
+    }
+    Ok(None)
+}
+
 /// A composition of numbers, of which the base was found.
 pub fn settle_number(
     alloc: Global,
@@ -128,17 +143,16 @@ pub fn settle_number(
     let Some(numeral) = numeral_of(book, base)? else {
         return Ok(Settled::Closed(goal));
     };
-    let face = part_of(book, goal.susp.typing, 2)?;
-    if always_false(book, goal.susp.ctx, face)? {
+    let Some(at) = live_conjunction(book, goal, 0)? else {
         return match numeral {
             Numeral::Zero => zero_over_nothing(book, goal, base),
             Numeral::Suc => suc_over_nothing(book, goal, base),
         };
-    }
+    };
     let sides = Sides {
         goal,
         base,
-        at: 0,
+        at,
         before: None,
     };
     ask_side(alloc, book, sides)
@@ -287,18 +301,6 @@ fn all_successors(
     Ok(Settled::Fired(rebuilt(book, goal, equal, None, term)?))
 }
 
-/// The place of the next conjunction of the face, if there is one.
-fn next_conjunction(book: &Book, sides: Sides) -> Result<Option<usize>, Fault> {
-    let goal = sides.goal;
-    let face = part_of(book, goal.susp.typing, 2)?;
-    let count = count_conjunctions(book, goal.susp.ctx, face)?;
-    if sides.at >= count {
-        return Err(Fault::Misfit);
-    }
-    let next = sides.at + 1;
-    Ok(if next < count { Some(next) } else { None })
-}
-
 /// What the side equals where one of the conjunctions up to the present one is true.
 fn equal_so_far(
     book: &mut Book,
@@ -339,7 +341,10 @@ pub fn settle_side(
     let inner = context_of(alloc, book, tube)?;
     let wanted = value_wanted(book, sides, numeral, inner)?;
     let so_far = equal_so_far(book, sides, side, wanted)?;
-    if let Some(at) = next_conjunction(book, sides)? {
+    let Some(after) = sides.at.checked_add(1) else {
+        return Err(Fault::Misfit);
+    };
+    if let Some(at) = live_conjunction(book, goal, after)? {
         let next = Sides {
             at,
             before: Some(so_far),
