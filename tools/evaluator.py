@@ -222,7 +222,15 @@ def unglue(sides, b):
     if side:
         return app(Later(fst, side[2]), b)
     found = now(b)
-    return now(found[2]) if found[0] == "glue" else ("unglue", sides_of(sides), b)
+    if found[0] == "glue" and cover(found[1]) == cover(sides):
+        return now(found[2])
+    return ("unglue", sides_of(sides), b)
+
+
+def cover(sides):
+    """Where a side holds. It tells an element of a glued type from one of the type of a side, if
+    that is glued too, before the face of the side is put in."""
+    return either(*[side[0] for side in sides])
 
 
 def type_of(value):
@@ -685,6 +693,74 @@ SHOWN = {
     "glue": lambda depth, sides, a: f"(glue {shown(a, depth)} " + shown_sides(
         depth, sides, lambda c: shown(c, depth)) + ")",
 }
+
+
+# Comparison, up to eta of functions, pairs, paths and elements of glued types.
+
+
+def equal(left, right, depth=0):
+    """Whether two values of one type, or two types, are equal."""
+    left, right = now(left), now(right)
+    for word, way in EXPANDED.items():
+        if word in (left[0], right[0]):
+            return way(left, right, depth)
+    return left[0] == right[0] and all(
+        equal_parts(one, other, depth, left[0]) for one, other in zip(left[1:], right[1:]))
+
+
+def equal_parts(left, right, depth, word):
+    """Whether two parts of forms with the same word are equal."""
+    if isinstance(left, Under):
+        if word in ("pi", "sig", "natrec"):
+            inner = variable(depth, ("nat",))
+            return equal(left(inner), right(inner), depth + 1)
+        return equal(left(atom(depth)), right(atom(depth)), depth + 1)
+    if isinstance(left, list):
+        return equal_sides(left, right, depth)
+    if word == "var" or isinstance(left, (Formula, int)):
+        return not isinstance(left, (Formula, int)) or left == right
+    return equal(left, right, depth)
+
+
+def equal_sides(left, right, depth):
+    """Whether sides have the same faces, and are equal on each."""
+    cover = either(*[side[0] for side in left])
+    if cover != either(*[side[0] for side in right]):
+        return False
+    for conj in cover:
+        given = {name: ONE if end else ZERO for name, end in conj}
+        one, other = whole(put(left, given)), whole(put(right, given))
+        if not all(equal_parts(*parts, depth, "side") for parts in zip(one[1:], other[1:])):
+            return False
+    return True
+
+
+def equal_functions(left, right, depth):
+    x = variable(depth, left[1] if left[0] == "lam" else right[1])
+    return equal(app(left, x), app(right, x), depth + 1)
+
+
+def equal_pairs(left, right, depth):
+    return equal(fst(left), fst(right), depth) and equal(snd(left), snd(right), depth)
+
+
+def equal_paths(left, right, depth):
+    return equal(papp(left, atom(depth)), papp(right, atom(depth)), depth + 1)
+
+
+def equal_glued(left, right, depth):
+    if left[0] == right[0]:
+        return equal_sides(left[1], right[1], depth) and equal(left[2], right[2], depth)
+    known, other = (left, right) if left[0] == "glue" else (right, left)
+    sides = now(type_of(other))[2]
+    for conj in either(*[side[0] for side in sides]):
+        given = {name: ONE if end else ZERO for name, end in conj}
+        if not equal(put(known, given), put(other, given), depth):
+            return False
+    return equal(known[2], unglue(sides, other), depth)
+
+
+EXPANDED = {"lam": equal_functions, "pair": equal_pairs, "plam": equal_paths, "glue": equal_glued}
 
 
 def main():

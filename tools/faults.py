@@ -37,6 +37,8 @@ UNSTORED = ("fault: WriteFault\n", 3)
 DEEP = ("yes: 20001 rows, 0 roots\n", 0)
 CUT = ("", 3)
 NO_MEMORY = ("", 5)
+NO_STACK = ("", 139)  # a limit of memory is one of the stack too, for which a deep text wants most
+NORMAL = ("(suc (suc zero))\n", 0)
 TOO_LONG = ("no: TooLong in First.ctt\n", 1)
 
 # What is typed, after what is set up, and what it may print and end with. Then what stands at the
@@ -62,6 +64,8 @@ OUTPUTS = [
     case("all is closed", "", "ctt check First <&- >&- 2>&-", CUT, stored="whole"),
     case("usage to a full output", "", "ctt help > /dev/full", CUT),
     case("a refusal to a full output", "rm Pairs.ctt", "ctt check Imports > /dev/full", CUT),
+    case("a normal form to a full output", "", "ctt normal First two > /dev/full; r=$?; "
+         "rm First.two.drv; exit $r", CUT),
     case("nobody reads", "", "{ sleep 0.2; ctt check First; echo $? > status; } | true; exit $("
          "cat status; rm status)", CUT, stored="whole"),
     case("input is closed", "", "ctt check First <&-", YES, stored="whole"),
@@ -99,6 +103,10 @@ READS = [
 STORES = [
     case("a folder at the path", "rm First.drv; mkdir First.drv", "ctt check First", UNSTORED,
          stored="none"),
+    case("a folder at the path of a normal form", "mkdir First.two.drv", "ctt normal First two",
+         UNSTORED),
+    case("a folder at the path of evidence", "echo 'a : nat = two.1' >> First.ctt; "
+         "mkdir First.no.drv", "ctt check First", UNSTORED),
     case("a named pipe at the path", "rm First.drv; mkfifo First.drv", "ctt check First", UNSTORED,
          stored="none"),
     case("a device at the path", "rm First.drv; mknod First.drv c 1 3", "ctt check First", UNSTORED,
@@ -151,6 +159,7 @@ HUNGRY = [
     ("ctt check First", YES),
     ("ctt check Imports", ("yes: 25 definitions\n", 0)),
     ("ctt check Deep", YES),
+    ("ctt normal First two; r=$?; rm -f First.two.drv; exit $r", NORMAL),
     ("ctt replay two.drv --of Two", ("yes: 13 rows, 2 roots\n", 0)),
     ("ctt replay deep", DEEP),
     ("ctt replay none", missing("none")),
@@ -247,8 +256,9 @@ def short_of_memory(program):
     for limit in limits(program):
         for typed, ordinary in HUNGRY:
             stored = "open" if "Deep" in typed else "old or whole"
-            yield case(f"{limit}: {typed}", "", f"{limit}; {typed} 2> /dev/null", ordinary,
-                       NO_MEMORY, stored=stored)
+            may = [ordinary, NO_MEMORY, *([NO_STACK] if "Deep" in typed else [])]
+            yield case(f"{limit}: {typed}", "", f"{limit}; {{ {typed}; }} 2> /dev/null", *may,
+                       stored=stored)
 
 
 def held(path, one, how):

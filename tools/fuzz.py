@@ -11,8 +11,10 @@ derivation is a stored one with some rows changed. What must hold:
   prints the same, and `check` stores the same bytes.
 - A module that is made to be direct is taken.
 - Where `check` says yes, what it stored is right and is the module's, by `replay --of`, and right
-  by `judge.py`, which shares no code with the program. Where it says no, nothing is stored, and
-  what is wrong with the text `replay --of` says too.
+  by `judge.py`, which shares no code with the program; and `normal` of one of the definitions
+  stores a right file with one root. Where it says no, what stood at the path of the derivation
+  stays. What is wrong with the text `replay --of` says too; where a definition is refused and lines
+  are shown, the evidence is right, with a root for a type and two where two things differ.
 - `replay` says of a derivation what `judge.py` says; with a module it says the first place at which
   the roots, as the judge has them, and those of the module differ.
 - Time and memory of a run are within a factor of the bytes that it read and wrote; and those of
@@ -40,6 +42,10 @@ FILES = {path.name: path.read_bytes() for path in (ROOT / "examples").glob("*.*"
 TEXTS = {name: data for name, data in FILES.items() if name.endswith(".ctt")}
 OF_RULES = [path.read_bytes() for path in sorted((ROOT / "tests").glob("*.drv"))]
 OLD = b"what stood here before\n"
+
+# Refusals of definitions, and those that show something, of which the second group differ.
+OF_DEFINITION = r"no: (RefusedForm|CannotInfer|UInU|Wanted\w+|Mismatch|SidesDiffer) |spent: "
+SHOWING = r"no: (UInU|Wanted\w+|(Mismatch|SidesDiffer)) "
 
 # A text, and what must hold of it.
 Case = collections.namedtuple("Case", "kind text holds")
@@ -69,11 +75,35 @@ def hold_linear(ran, length):
     hold(ran.peak < 48 + length * 1e-2, "memory", f"{ran.peak:.0f} MB for {length} bytes")
 
 
-def hold_of_refused(text, of_two):
-    """A refusal of the text is that of a replay too, which has none of a definition."""
+def hold_of_refused(program, name, text, of_two):
+    """A refusal of the text is that of a replay too, which has none of a definition. That of a
+    definition has evidence, where it shows something."""
     if of_two != text:
-        hold(text.startswith("no: RefusedForm"), "of", f"{text!r}, and {of_two!r}")
+        hold(re.match(OF_DEFINITION, text), "of", f"{text!r}, and {of_two!r}")
         hold(of_two.startswith(("yes", "no: root")), "of", f"{text!r}, and {of_two!r}")
+    evidence = program.at / f"{name}.no.drv"
+    shown = re.match(SHOWING, text)
+    hold(evidence.exists() == bool(shown), "evidence", text)
+    if shown:
+        said = program.run("replay", evidence.name).text
+        roots = 2 if shown[2] else 1
+        hold(re.fullmatch(rf"yes: \d+ rows, {roots} roots\n", said), "evidence", f"{text}{said}")
+        line, _ = judged(evidence.read_bytes()) or (said, None)
+        hold(said == line, "judge of evidence", f"{line!r}, and {said!r}")
+
+
+def hold_of_normal(program, name, text):
+    """The normal form of the last definition of a module that is right."""
+    names = re.findall(rb"^(?!module|import)([^\W\d]\w*)", text, re.M)
+    if not names:
+        return
+    words = [name, names[-1].decode(errors="replace")]
+    ran = program.twice("normal", *words)
+    hold(ran.status == 0 or ran.text.startswith(("no: NoSuchName", "spent", "no: RefusedForm")),
+         "normal", ran.text)
+    if ran.status == 0:
+        said = program.run("replay", ".".join(words) + ".drv").text
+        hold(re.fullmatch(r"yes: \d+ rows, 1 roots\n", said), "normal", f"{ran.text}{said}")
 
 
 def hold_of_stored(program, name, stored, of_two):
@@ -104,9 +134,10 @@ def hold_of_module(program, files, name, wanted=None):
     of_two = program.run("replay", "two.drv", "--of", name).text
     if ran.status == 0:
         hold_of_stored(program, name, stored, of_two)
+        hold_of_normal(program, name, files[f"{name}.ctt"])
     else:
         hold(stored == OLD, "stored", ran.text)
-        hold_of_refused(ran.text, of_two)
+        hold_of_refused(program, name, ran.text, of_two)
     return ran.text
 
 

@@ -10,12 +10,16 @@ import subprocess
 LIMIT = 60  # seconds that one run may take
 
 AT = "NotUtf8|BadByte|OpenComment|RefusedForm|Unexpected|TooDeep|Unbound|Twice|NameKind|GlueSide"
-WHOLE = "TooLong|ImportCycle|TooMany|MissingFile"
+WHOLE = "TooLong|ImportCycle|TooMany|MissingFile|NoSuchName"
+PLACE = r"at \d+ in \S+\.ctt"
+TYPED = rf"(WantedFunction|WantedPair|WantedPath|WantedGlue|WantedType) {PLACE}\ntype: .+"
+SIDES = rf"(Mismatch {PLACE}|SidesDiffer {PLACE}\nface:.*)\nfound: .+\nwanted: .+"
 LINES = {
-    0: r"yes: \d+ definitions|yes: \d+ rows, \d+ roots",
-    1: rf"no: row \d+|no: root \d+|no: ({AT}) at \d+ in \S+\.ctt|no: ({WHOLE}) in \S+",
+    0: r"yes: \d+ definitions|yes: \d+ rows, \d+ roots|(?!yes|no|spent|fault|usage)[(\w].*",
+    1: rf"no: (row \d+|root \d+|({AT}|CannotInfer|UInU) {PLACE}|({WHOLE}) in \S+|{TYPED}|{SIDES})",
     2: r"usage: .*",
     3: r"fault: (ReadFault|WriteFault)",
+    4: rf"spent: \d+ {PLACE}",
 }
 
 # What a run printed and how it ended, its seconds of a processor, and its peak of megabytes, which

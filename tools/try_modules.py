@@ -4,13 +4,15 @@
 usage: python3 tools/try_modules.py PROGRAM [COUNT] [SEED]
 
 Each module and what it imports are made at random, so that most definitions are direct, and then
-some of their parts are exchanged. The answer, its place, and the roots of the derivation must be
-what `direct.py` says, whose trees are written out; the derivation must be right by `judge.py`, and
-of that module by `replay --of`. What differs is printed, with the modules; the status says whether
-anything did.
+some of their parts are exchanged. Where all are direct by `direct.py`, whose trees are written out,
+the answer is yes, and the roots of the derivation are what that says. Else the answer is yes, or a
+refusal of a definition that is not before the first one that is not direct. The derivation must be
+right by `judge.py`, and of that module by `replay --of`. What differs is printed, with the modules;
+the status says whether anything did.
 """
 import pathlib
 import random
+import re
 import subprocess
 import sys
 import tempfile
@@ -25,6 +27,8 @@ LEVELS = {"let": 0, "lambda": 0, "names": 0, "pi": 1, "sigma": 1, "arrow": 1, "a
 
 NAMES = ["a", "b", "f", "g", "x", "y", "z", "A", "B", "P"]
 ENDS = ["i", "j", "k"]
+OF_DEFINITIONS = ["CannotInfer", "UInU", "Mismatch", "SidesDiffer", "WantedFunction", "WantedPair",
+                  "WantedPath", "WantedGlue", "WantedType"]
 
 
 class Stuck(Exception):
@@ -510,24 +514,35 @@ def mutated(choose, definitions):
 
 
 def expected(modules):
-    """The line that `check` prints of the last module, and the judgements of the roots. A name that
-    is out of scope is raised.
+    """The line that `check` prints of the last module where all is right, the file and the place of
+    the first definition that is not direct, if any, and the judgements of the roots. A name that is
+    out of scope is raised.
     """
     scopes, typing = {}, Typing()
     for name, imports, definitions, _ in modules:
         scope_definitions(reached(modules, imports, scopes, "names"), definitions)
         names = [Entry("definition", definition.name) for definition in definitions]
         scopes[name] = {"names": names}
+    count = sum(len(definitions) for _, _, definitions, _ in modules)
+    line = f"yes: {count} definitions\n"
     for name, imports, definitions, places in modules:
         place = reached(modules, imports, scopes, "typed")
         for definition, at in zip(definitions, places):
             try:
                 place = typing.define(place, definition)
             except NotDirect:
-                return f"no: RefusedForm at {at} in {name}.ctt\n", []
+                return line, (name, at), []
         scopes[name]["typed"] = place[len(place) - len(definitions):]
-    count = sum(len(definitions) for _, _, definitions, _ in modules)
-    return f"yes: {count} definitions\n", typing.stated
+    return line, None, typing.stated
+
+
+def is_refused_behind(printed, modules, name, at):
+    """Whether a line refuses a definition that is not before the one of a place."""
+    found = re.match(r"no: (\w+) at (\d+) in (\w+)\.ctt\n", printed)
+    if not found or found[1] not in OF_DEFINITIONS:
+        return False
+    names = [module[0] for module in modules]
+    return (names.index(found[3]), int(found[2])) >= (names.index(name), at)
 
 
 def reached(modules, imports, scopes, kind):
@@ -578,14 +593,17 @@ def seen(program, folder, modules):
     """What differs from what is expected; none where nothing does."""
     for name, _, _, _, text in modules:
         pathlib.Path(folder, f"{name}.ctt").write_text(text)
-    line, judgements = expected([module[:4] for module in modules])
+    line, first, judgements = expected([module[:4] for module in modules])
     last = modules[-1][0]
     printed = run(program, folder, "check", last)
     stored = pathlib.Path(folder, f"{last}.drv")
+    if first and is_refused_behind(printed, modules, *first):
+        return "a file is stored" if stored.exists() else None
     if printed != line:
         return f"printed {printed!r}, expected {line!r}"
-    if line.startswith("no"):
-        return "a file is stored" if stored.exists() else None
+    if first:
+        again = run(program, folder, "replay", stored.name, "--of", last)
+        return None if again.startswith("yes") else f"replay printed {again!r}"
     wanted = [judgement for context, kind, body in judgements
               for judgement in (("Ty", context, kind), ("Tm", context, body, kind))]
     found = roots(stored.read_text().splitlines())
