@@ -16,6 +16,7 @@ mod headed;
 mod match_terms;
 mod match_types;
 mod matched_faced;
+mod sides;
 mod state;
 mod step;
 

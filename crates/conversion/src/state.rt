@@ -4,11 +4,11 @@ use crate::faced::FacedFrame;
 use book::NodeId;
 pub use equal_parts::Former;
 use equal_parts::{Applied, Family, Halved, Lines, Named, Pair, Recursions, Under};
-use faced_parts::Glues;
+use faced_parts::{Glues, Sided};
 use std::alloc::Global;
 use tested_steps::Fault;
 use trails::Link;
-use values::{Goal, Part, Reply};
+use values::{Goal, Part, Reply, Trail};
 
 /// The normal forms of what was asked.
 #[derive(Clone, Copy, Debug)]
@@ -29,6 +29,12 @@ pub struct Unglued {
 /// What a state is about.
 #[derive(Clone, Copy, Debug)]
 pub enum Focus {
+    /// What was asked.
+    Asked,
+    /// What was asked was asked where a conjunction is true,
+    SideAsked(Sided),
+    /// and is so there.
+    SideEqual(Sided, NodeId),
     /// Two terms at one type, or two types.
     Fresh(Pair),
     /// The same, where a rule may rewrite them though their parts are in normal form.
@@ -125,6 +131,8 @@ pub enum Frame {
 #[derive(Drop)]
 pub struct ConvertState {
     pub(crate) question: Pair,
+    /// The trail where a conjunction is true on which what was asked differs.
+    pub(crate) apart: Option<Trail>,
     pub(crate) parted: Option<Sides>,
     pub(crate) focus: Focus,
     pub(crate) frames: Vec<Frame>,
@@ -136,8 +144,9 @@ impl ConvertState {
     pub fn new(alloc: Global, question: Pair) -> ConvertState {
         ConvertState {
             question,
+            apart: None,
             parted: None,
-            focus: Focus::Fresh(question),
+            focus: Focus::Asked,
             frames: Vec::new(alloc),
             links: Vec::new(alloc),
         }
@@ -153,7 +162,13 @@ impl ConvertState {
             Reply::Head(head) => with_head(focus, head)?,
             Reply::Normal(part) => with_normal(focus, part)?,
             Reply::Equal(node) => with_equation(focus, node)?,
-            Reply::Differ(_) => with_difference(focus)?,
+            Reply::Differ(trail) => {
+                if let Focus::SideAsked(_) = focus {
+                    self.apart = Some(trail);
+                    return Ok(());
+                }
+                with_difference(focus)?
+            }
         };
         Ok(())
     }
@@ -184,6 +199,7 @@ fn with_equation(focus: Focus, node: NodeId) -> Result<Focus, Fault> {
     match focus {
         Focus::TypesAsked(applied) => Ok(Focus::TypesEqual(applied, node)),
         Focus::BasesAsked(both) => Ok(Focus::BasesEqual(both, node)),
+        Focus::SideAsked(sided) => Ok(Focus::SideEqual(sided, node)),
         _ => Err(Fault::Misfit),
     }
 }

@@ -7,12 +7,14 @@ use crate::headed::{headed, opened, spine};
 use crate::match_terms::compare_arguments;
 use crate::match_types::{Typed, right_type, types};
 use crate::matched_faced::{Elements, after_elements, unglue_maps};
+use crate::sides::sides_of;
 use crate::state::{ConvertState, Focus, Frame, Sides, Unglued};
 use book::{Book, NodeId};
 use equal_parts::{
     Applied, Pair, absurd, are_one, at_one_type, close_joined, close_types_joined, is_absurd,
     is_type, kids, reflexive, types_of_arguments,
 };
+use faced_parts::after_side;
 use std::alloc::Global;
 use tested_steps::Fault;
 use values::{Goal, Question, Reply, suspend};
@@ -230,9 +232,30 @@ fn compare_normal(state: &mut ConvertState, sides: Sides) -> Next {
     }))
 }
 
+/// What was asked, where one conjunction after the other is true.
+fn on_sides(sides: faced_parts::Sides) -> Next {
+    match sides {
+        faced_parts::Sides::All(equal) => Next::Equals(equal),
+        faced_parts::Sides::One(sided, Pair { ctx, left, right }) => {
+            let question = Question::Convert { ctx, left, right };
+            Next::Asks(question, Focus::SideAsked(sided))
+        }
+    }
+}
+
+/// Goes on with what was asked.
+fn begun(alloc: Global, book: &mut Book, state: &mut ConvertState) -> Result<Next, Fault> {
+    match sides_of(book, state.question)? {
+        Some(sides) => Ok(on_sides(sides)),
+        None => fresh(alloc, book, &mut state.frames, state.question, false),
+    }
+}
+
 /// What a state goes on with.
 fn next_of(alloc: Global, book: &mut Book, state: &mut ConvertState) -> Result<Next, Fault> {
     match state.focus {
+        Focus::Asked => begun(alloc, book, state),
+        Focus::SideEqual(sided, node) => Ok(on_sides(after_side(book, sided, node)?)),
         Focus::Differ => part(book, state),
         Focus::LeftNormal(left) => {
             let susp = suspend(book, state.question.ctx, state.question.right)?;
@@ -257,6 +280,9 @@ pub fn step_convert(
     state: ConvertState,
 ) -> Result<ConvertStep, Fault> {
     let mut state = state;
+    if let Some(trail) = state.apart.take() {
+        return Ok(ConvertStep::Done(Reply::Differ(trail)));
+    }
     match next_of(alloc, book, &mut state)? {
         Next::Goes(focus) => {
             state.focus = focus;
