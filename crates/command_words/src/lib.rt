@@ -1,8 +1,8 @@
 //! The words of the command line.
 //!
 //! ```text
-//! command_of(alloc, &words)?          // of `normal Nat two --turns 100`:
-//!                                     // Some(Command::Normal { module: "Nat", name: "two", turns: 100 })
+//! command_of(alloc, &words)?  // of `normal Nat two --turns 100`:
+//!                         // Some(Command::Normal { module: "Nat", name: "two", turns: 100 })
 //! ```
 #![tactic(auto)]
 

@@ -1,5 +1,5 @@
-//! What is asked where a face of several conjunctions is true: none of the faces of a system need be
-//! true there, so it is asked where each conjunction is. The trail of a difference is of one of them.
+//! What is asked where a face of several conjunctions is true: no face of a system need be true
+//! there, so it is asked where each conjunction is. The trail of a difference is of one of them.
 
 use book::{Book, NodeId};
 use equal_parts::Pair;

@@ -126,8 +126,8 @@ pub enum Frame {
 }
 
 /// A state: a focus, the frames around it, the innermost last, and the links of the trail from the
-/// frames that were taken off, since a part differs, the innermost first. Once a part differed, the normal
-/// forms of what was asked are compared, and no head is asked of their parts.
+/// frames that were taken off, since a part differs, the innermost first. Once a part differed, the
+/// normal forms of what was asked are compared, and no head is asked of their parts.
 #[derive(Drop)]
 pub struct ConvertState {
     pub(crate) question: Pair,

@@ -51,7 +51,7 @@ impl Examiner {
         }
     }
 
-    /// The refusal of a type of the place that is not of the wanted kind, for what begins at a byte.
+    /// The refusal of a type of the place that is not of the wanted kind, for what is at a byte.
     pub fn wanted(&mut self, book: &mut Book, at: u32, kind: Kind, ty: NodeId) -> Stop {
         match self.normal_of(book, at, ty) {
             Ok(equation) => Stop::refused(at, CheckFault::Wanted(kind, equation)),

@@ -2,7 +2,7 @@
 //! their join, and what has equal parts under faces that are the same is equal.
 //!
 //! ```text
-//! COVER_TERMS      of ctx H, two terms on the join of two faces, equations on each: that on the join
+//! COVER_TERMS      of two terms on the join of two faces, equations on each: that on the join
 //! GLUE_TYPE_EQUAL  of equations of the parts of two glued types: one of the types
 //! ```
 #![tactic(auto)]

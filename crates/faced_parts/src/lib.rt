@@ -3,8 +3,8 @@
 //! of the face.
 //!
 //! ```text
-//! let sides = begin_sides(&mut book, comp_sides(&mut book, both, lines)?)?;   // H.c.I >> b = c : A
-//! let equal = close_comp(&mut book, both, [lines, sides, bases])?;            // H >> comp A p b a = ..
+//! let sides = begin_sides(&mut book, comp_sides(&mut book, both, lines)?)?; // H.c.I >> b = c : A
+//! let equal = close_comp(&mut book, both, [lines, sides, bases])?; // H >> comp A p b a = ..
 //! ```
 #![tactic(auto)]
 

@@ -39,9 +39,9 @@ fn form_from(
     }
 }
 
-/// What a symbol makes of the forms and faces before it: `_` is false, `^` is true, `0` and `1` take
-/// the form that is to be at that end, `A` to `Z` make the names `a` to `z` of the face on top free,
-/// `*` meets and `+` joins.
+/// What a symbol makes of the forms and faces before it: `_` is false, `^` is true, `0` and `1`
+/// take the form that is to be at that end, `A` to `Z` make the names `a` to `z` of the face on top
+/// free, `*` meets and `+` joins.
 fn face_from(
     rt: &impl Abort,
     alloc: Global,

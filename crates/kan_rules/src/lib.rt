@@ -1,5 +1,5 @@
-//! Recipes of evaluation at paths, compositions and Glue: how a term goes on, form by form, and what
-//! that keeps of its equation.
+//! Recipes of evaluation at paths, compositions and Glue: how a term goes on, form by form, and
+//! what that keeps of its equation.
 //!
 //! ```text
 //! FIRE_PATH        of r x y H e K b E f, what equals a path under a substitution, at a formula

@@ -1,5 +1,5 @@
-//! Heads whose parts are in normal form: the goal at the form of these, with the equation that leads
-//! to it and its typing. Where all parts were in normal form, it is the goal as it stands.
+//! Heads whose parts are in normal form: the goal at the form of these, with the equation that
+//! leads to it and its typing. Where all parts were in normal form, it is the goal as it stands.
 //!
 //! ```text
 //! // goal : app f a, and f = g, a = b are parts

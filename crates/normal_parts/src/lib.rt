@@ -2,7 +2,7 @@
 //!
 //! ```text
 //! // over the row of `max (min (var 1) (var 0)) (var 0)`, where no name is fixed
-//! may_apply(alloc, &rows, &mut environments, &scopes, Scope::Open, Closure::of_row(row))?     // false
+//! may_apply(alloc, &rows, &mut environments, &scopes, Scope::Open, Closure::of_row(row))? // false
 //! ```
 #![tactic(auto)]
 

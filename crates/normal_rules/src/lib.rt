@@ -1,7 +1,7 @@
 //! Recipes of normal forms: what a term or a type is of parts that are in normal form.
 //!
 //! ```text
-//! LAM_NORMAL       of ctx H, the domain, its normal form, the body and its normal form: the two functions equal
+//! LAM_NORMAL       of domain and body with their normal forms: the two functions are equal
 //! ```
 #![tactic(auto)]
 

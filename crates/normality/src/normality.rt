@@ -51,8 +51,8 @@ fn keep(passed: &mut IndexSet<Part>, part: Part) -> Result<(), AllocError>
     }
 }
 
-/// Whether the tree of a row is normal where the names of these indices are fixed. A row that stands
-/// in it several times under one environment and one scope is looked at once.
+/// Whether the tree of a row is normal where the names of these indices are fixed. A row that
+/// stands in it several times under one environment and one scope is looked at once.
 pub fn is_normal_where<R: Reader>(
     alloc: Global,
     rows: &R,

@@ -23,8 +23,8 @@ fn replayed(alloc: Global, place: &mut Place) -> Result<String, AllocError> {
     String::from_str(alloc, roots)
 }
 
-/// What a check says of the module with these definitions, its lines as one, and, of a yes, how many
-/// roots a replay finds.
+/// What a check says of the module with these definitions, its lines as one, and, of a yes, how
+/// many roots a replay finds.
 pub(crate) fn checked(alloc: Global, defs: &str) -> Result<String, AllocError> {
     let mut place = place_with(alloc, defs)?;
     let said = place.printed(alloc, "check M")?;

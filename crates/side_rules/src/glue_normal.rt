@@ -11,8 +11,8 @@ use theory::PiRule::AppCong;
 use theory::RuleName::{Contexts, Equality, Gluing, Instances, Pi, Sigma};
 use theory::SigmaRule::Fst;
 
-/// An element of a glued type whose parts are in normal form, at a face that is the same as its own.
-/// Its parts are p q H A T w u a v b.
+/// An element of a glued type whose parts are in normal form, at a face that is the same as its
+/// own. Its parts are p q H A T w u a v b.
 pub static GLUE_NORMAL: &[Row] = table! {
     // 0: ctx H
     Premise(0),

@@ -9,8 +9,8 @@ use theory::InstanceRule::TmEqSub;
 use theory::Op;
 use theory::RuleName::{Contexts, Equality, Gluing, Instances};
 
-/// A glued type in the universe whose parts are in normal form, at a face that is the same as its own.
-/// Its parts are p q H A B T V w z.
+/// A glued type in the universe whose parts are in normal form, at a face that is the same as its
+/// own. Its parts are p q H A B T V w z.
 pub static GLUE_SMALL_NORMAL: &[Row] = table! {
     // 0: ctx H
     Premise(0),

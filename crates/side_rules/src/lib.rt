@@ -2,8 +2,8 @@
 //! what a glued type, an element of one, and a composition are of parts that are in normal form.
 //!
 //! ```text
-//! SIDE_TERM   of ctx H, a on the join of two faces, what it equals on each: the system of both, equal to a
-//! COMP_NORMAL of ctx H, the line, the side and the base, with what each equals: the two compositions equal
+//! SIDE_TERM   of a on the join of two faces, what it equals on each: the system of both is a
+//! COMP_NORMAL of what line, side and base equal: the two compositions are equal
 //! ```
 #![tactic(auto)]
 

@@ -2,7 +2,7 @@
 //! definitions spell, and an equation of a term that stands there.
 //!
 //! ```text
-//! are_stated(alloc, &mut book, &roots, defs)?          // whether these conclude the definitions' judgements
+//! are_stated(alloc, &mut book, &roots, defs)?  // whether these conclude what definitions state
 //! other_side(alloc, &book, equal, root)?       // n, where equal concludes [] >> t = n : A
 //! ```
 #![tactic(auto)]

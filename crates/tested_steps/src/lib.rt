@@ -4,7 +4,7 @@
 //!
 //! ```text
 //! let one = try_conclude(&mut book, &RuleUse { rule: suc, parts: [ctx, zero], .. })?;
-//! // Err(Fault::Unfit(suc, Fit::Premise(0))) if the premise is no node that concludes [] >> zero : nat
+//! // Err(Fault::Unfit(suc, Fit::Premise(0))) if the premise does not conclude [] >> zero : nat
 //! let [term] = derive(&mut book, TERM_INSTANCE, TERM_INSTANCE_GIVES, &[], &[sub, one])?;
 //! ```
 #![tactic(auto)]

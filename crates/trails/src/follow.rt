@@ -215,8 +215,8 @@ fn linked(
 }
 
 /// Whether links lead from two trees of a context to two that show that they differ, if both are
-/// normal: two variables, two outermost forms, two formulas that are not the same, or two faces that
-/// are not true at the same points. All are rows.
+/// normal: two variables, two outermost forms, two formulas that are not the same, or two faces
+/// that are not true at the same points. All are rows.
 ///
 /// # Errors
 /// `Memory`; `Misfit` where a row or a node is not there.
