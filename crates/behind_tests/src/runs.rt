@@ -6,7 +6,8 @@ ghost use Rattle.book.specs.Contents.{Contents};
 ghost use Rattle.recipes.specs.Derivations.{Derives};
 ghost use Rattle.recipe_runner.specs.Running.{MayRun, most_made_by};
 ghost use Rattle.kan_tests.specs.Fillings.{earlier};
-ghost use Rattle.behind_tests.specs.Compositions.{compositions_statement, glued_composition_statement};
+ghost use Rattle.behind_tests.specs.Compositions.{compositions_statement};
+ghost use Rattle.behind_tests.specs.Compositions.{glued_composition_statement};
 ghost use Rattle.behind_tests.specs.Glued.{glued_statement};
 
 use crate::compositions::{COMPOSITIONS, COMPOSITIONS_GIVES};

@@ -71,7 +71,8 @@ impl Book {
         row < self.rows.len() && self.kind(row) == kind
     }
 
-    /// Whether a number is that of a row of a kind. A substitution's shift is one that `then` takes.
+    /// Whether a number is that of a row of a kind. The shift of a substitution is one that `then`
+    /// takes.
     pub fn is_part(&self, row: u64, kind: PartKind) -> bool
         ensures { IsTrue result ↔ IsPart kind (book_means self.now row) }
     {

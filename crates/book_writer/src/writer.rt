@@ -86,8 +86,8 @@ fn append(
 /// rows but the header serves a root. The answer is the number of its rows.
 ///
 /// # Errors
-/// Only to be out of memory, and then `into` is as before. A root that stands on a shift above 2^62,
-/// which no file spells, counts as out of memory.
+/// Only to be out of memory, and then `into` is as before. A root that stands on a shift above
+/// 2^62, which no file spells, counts as out of memory.
 pub fn write(
     book: &Book,
     alloc: Global,

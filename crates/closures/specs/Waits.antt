@@ -15,6 +15,7 @@ AllStand f n ws = All (λ w. IsDelayed f w.delayed) ws × All (λ w. w.depth ≤
 -- It means the same, stands under as many binders as that did, and weighs at most so much more.
 pub record WaitsFor (f : Meanings) (d : Subst) (weight : ℕ) (ws longer : List Waiting) : Type 0
   where
-    pub means : (o : Option Thing) → under o (delays f longer) ≡ under o (at_depth 0 d ∷ delays f ws)
+    pub means : (o : Option Thing) →
+      under o (delays f longer) ≡ under o (at_depth 0 d ∷ delays f ws)
     pub stands : (n : ℕ) → AllStand f n ws → AllStand f n longer
     pub weighs : weight_of longer ≤ weight + weight_of ws

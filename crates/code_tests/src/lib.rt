@@ -1,5 +1,5 @@
-//! Tests of `codes`, `scopes` and `name_resolution`: codes by their forms, names in scope, and names and
-//! formulas of a text.
+//! Tests of `codes`, `scopes` and `name_resolution`: codes by their forms, names in scope, and
+//! names and formulas of a text.
 //!
 //! They stand in a crate of their own, since a crate with tests is proved twice.
 #![tactic(auto)]

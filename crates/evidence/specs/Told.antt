@@ -27,8 +27,8 @@ pub record IsOf (texts : Shown) (Js : List Judgement) (e : Evidence) : Type 0 wh
   pub rows : ℕ
   pub written : IsWritten e.bytes.items rows Js
 
--- the file derives that a type is equal to a normal one, which does not begin with that operator, if
--- one is named, and is shown
+-- the file derives that a type is equal to a normal one, which does not begin with that operator,
+-- if one is named, and is shown
 pub record IsTypeShown (unwanted : Option Op) (e : Evidence) : Type 0 where
   pub context : Context
   pub normal : Tree

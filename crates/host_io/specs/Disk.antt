@@ -7,7 +7,8 @@ use Rattle.std.specs.Io.KnownBytes.{Appends}
 -- if it was below the limit, and else nothing was.
 abbrev pub AppendsBelow : Option (List ℕ) → ℕ → List ℕ → List ℕ → Bool → Type 0
 AppendsBelow left limit old new true =
-    (bytes : List ℕ) × (new ≡ old ++ bytes) × (length bytes < limit) × IfSome left (λ all. bytes ≡ all)
+    (bytes : List ℕ) × (new ≡ old ++ bytes) × (length bytes < limit) ×
+    IfSome left (λ all. bytes ≡ all)
 AppendsBelow left limit old new false =
     (new ≡ old) × IfSome left (λ bytes. limit ≤ length bytes)
 

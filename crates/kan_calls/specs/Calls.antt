@@ -31,8 +31,8 @@ Gives s old new ctx step derived =
     → meanings (book_concludes new) (derived.typing.0 ∷ derived.equations)
     ≡ Some (conclusions_at s things)
 
--- Over earlier recipes that add so much at most, the rows derive the statement; a book can run them,
--- and they add no more than that.
+-- Over earlier recipes that add so much at most, the rows derive the statement; a book can run
+-- them, and they add no more than that.
 pub record IsRecipe (earlier : List Statement) (most : ℕ → ℕ) (s : Statement)
     (rows : List Row) (gives : List ℕ) (added : ℕ) : Type 0 where
   pub derives : Derives earlier s rows gives

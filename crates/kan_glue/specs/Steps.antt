@@ -19,7 +19,8 @@ lines_kinds = Context ∷ Term ∷ Term ∷ Term ∷ Term ∷ Term ∷ Term ∷ 
 
 -- `a1'`, the composition of what is unglued: here `k = comp(i.A, p, i.unglue q T w b, ..)`. It is
 -- g{1} on p; and on q{1} and p the image of b{1}.
-abbrev pub base_claims : (L : Language) → L.context → (A q T w p b a : L.tree) → List (JudgementOf L)
+abbrev pub base_claims :
+    (L : Language) → L.context → (A q T w p b a : L.tree) → List (JudgementOf L)
 base_claims L G A q T w p b a =
     let k = glue_base L A q T w p b a in
     let end = at L A (i1 L) in

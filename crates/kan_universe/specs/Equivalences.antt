@@ -76,8 +76,8 @@ module _ (L : Language) (G : L.context) (E : L.tree) where
       ∷ TmEq (L.with_face H (eq1 L j)) m (eqv_u L (line_past 3) g r) T
       ∷ []
 
-  -- `n(y,x,c,j,r)`, over y, x, a path c from y to `f x`, j and r: it is c at r = 1, v at j = 0 and u
-  -- at j = 1
+  -- `n(y,x,c,j,r)`, over y, x, a path c from y to `f x`, j and r: it is c at r = 1, v at j = 0
+  -- and u at j = 1
   abbrev pub n_claims : List (JudgementOf L)
   n_claims =
       let path = pathp L (type_past 3 (i1 L)) (L.var 1) (app L (map_past 2) (L.var 0)) in

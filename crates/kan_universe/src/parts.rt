@@ -108,8 +108,8 @@ impl Earlier for EquivalenceParts {
 fn universe_recipe(number: u16) -> Recipe
     requires { number < 2 }
     ensures { (s : Statement) → slice_get universe_parts number ≡ Some s →
-        IsRecipe equivalence_parts (slice_index most_of_equivalence_parts) s result.rows.now result.gives.now
-        (slice_index most_of_universe_parts number) }
+        IsRecipe equivalence_parts (slice_index most_of_equivalence_parts) s
+        result.rows.now result.gives.now (slice_index most_of_universe_parts number) }
 {
     match number {
         0 => {

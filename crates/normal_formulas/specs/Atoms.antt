@@ -1,5 +1,6 @@
 -- Names with a sign: their order, and the trees that they stand for.
-use Rattle.std.specs.Prelude.{◌≢◌, ◌<◌, ℕ, Bool, true, false, List, [], ◌∷◌, map, Vec, Option, Some, None}
+use Rattle.std.specs.Prelude.{◌≢◌, ◌<◌, ℕ, Bool, true, false, List, [], ◌∷◌, map, Vec}
+use Rattle.std.specs.Prelude.{Option, Some, None}
 use Rattle.std.specs.declared.alloc.Global.{Global}
 use Rattle.std.specs.declared.cmp.Ordering.{Ordering}
 use Rattle.std.specs.Ordering.{nat_cmp, bool_cmp, then_cmp, on}

@@ -1,5 +1,6 @@
 -- Formulas and faces of normal trees, and faces that are written again in systems.
-use Rattle.std.specs.Prelude.{◌≡◌, ◌≢◌, suc, Bool, true, false, List, [], ◌∷◌, map, Option, Some, None}
+use Rattle.std.specs.Prelude.{◌≡◌, ◌≢◌, suc, Bool, true, false, List, [], ◌∷◌, map}
+use Rattle.std.specs.Prelude.{Option, Some, None}
 use Rattle.std.specs.List.{All}
 use Rattle.std.specs.List.Sorted.{IsStrictlySortedBy}
 use Rattle.trees.specs.declared.op.Op.TheVariants as op
@@ -41,8 +42,8 @@ written_for false a = a
 abbrev pub all_written : Bool → List Atom → List Atom
 all_written raised atoms = map (written_for raised) atoms
 
--- One tree is a conjunction, and the other one the same conjunction as it is written there, of these
--- atoms. If none are told they are not.
+-- One tree is a conjunction, and the other one the same conjunction as it is written there, of
+-- these atoms. If none are told they are not.
 abbrev pub IsConjunctionOf : Bool → Tree → Tree → Option (List Atom) → Type 0
 IsConjunctionOf raised t u (Some atoms) =
     (c : List Atom) × (t ≡ conjunction c) × (u ≡ conjunction (all_written raised c))

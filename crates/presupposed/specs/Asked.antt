@@ -47,8 +47,8 @@ IsAt b node G A = (J : Judgement) × Says b node J × IsJudgedAt J G A
 abbrev pub Equates : Contents → NodeId → Judgement → Judgement → Type 0
 Equates b node left right = (J : Judgement) × Says b node J × IsEquation J left right
 
--- The node concludes this equation of terms, by a rule of composition whose right sides are typed as
--- they are unfolded.
+-- The node concludes this equation of terms, by a rule of composition whose right sides are typed
+-- as they are unfolded.
 pub record Unfolds (b : Contents) (node : NodeId) (G : Context) (a c A : Tree) : Type 0 where
   pub says : Says b node (TmEq G a c A)
   pub made : Node

@@ -1,10 +1,10 @@
 //! The hash of a row: a product of two words for each word.
 //!
-//! The words go to two states by turns, so that a processor works on two products at once. A product
-//! of 128 bits is folded to its halves' sum without carries, so each bit of a hash depends on each
-//! word. Its keys are constants, so whoever writes a file can compute it. It is not made to
-//! withstand one who looks for rows whose hashes share many bits, though no way is known to make
-//! them other than by trying.
+//! The words go to two states by turns, so that a processor works on two products at once. A
+//! product of 128 bits is folded to its halves' sum without carries, so each bit of a hash depends
+//! on each word. Its keys are constants, so whoever writes a file can compute it. It is not made
+//! to withstand one who looks for rows whose hashes share many bits, though no way is known to
+//! make them other than by trying.
 
 ghost use Rattle.std.specs.Prelude.{◌≡◌};
 ghost use Rattle.region.specs.Hashes.{folded, added, hash_of};

@@ -25,7 +25,8 @@ use Rattle.resolved_forms.specs.declared.opened.MotiveText.{MotiveText}
 use Rattle.resolved_forms.specs.declared.opened.MotiveText.TheVariants as motive
 use Rattle.resolved_forms.specs.declared.opened.PairText.{PairText}
 use Rattle.resolved_forms.specs.declared.opened.PairText.TheVariants as pair
-use Rattle.resolved_forms.specs.Shaped.{Becomes, Become, Term, Line, Motive, Pair, after_all, bound_in}
+use Rattle.resolved_forms.specs.Shaped.{Becomes, Become, Term, Line, Motive, Pair, after_all}
+use Rattle.resolved_forms.specs.Shaped.{bound_in}
 use Rattle.resolved_forms.specs.Shaped.{binding_nothing, numbers, tuple, under_tele}
 use Rattle.resolved_forms.specs.Spelt.{term_of, line_of, motive_of, pair_of, no_pair_of, words_of}
 use Rattle.resolved_forms.specs.Spelt.{binders_of}

@@ -226,8 +226,8 @@ module _ (L : Language) where
   abbrev pub motive_step : tree → tree
   motive_step P = pi nat (pi P (apply P (push (shift_by 2) (suc (var 1)))))
 
-  -- The trees of the Kan operations, as in the paper by Cohen et al., sections 4, 5 and 6. A line is
-  -- a tree over one more name. `stability/specs/Named` has each of these trees with bound names.
+  -- The trees of the Kan operations, as in the paper by Cohen et al., sections 4, 5 and 6. A line
+  -- is a tree over one more name. `stability/specs/Named` has each of these trees with bound names.
 
   -- the line along a formula r over its name
   abbrev pub along : tree → tree → tree

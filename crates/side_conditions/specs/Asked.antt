@@ -1,7 +1,8 @@
 -- What side tests ask about.
 use Rattle.std.specs.Prelude.{ℕ}
 use Rattle.conditions.specs.declared.side_test.SideTest.{SideTest}
-use Rattle.conditions.specs.declared.side_test.SideTest.TheVariants.{IsFormula, IsFace, Holds, Alike}
+use Rattle.conditions.specs.declared.side_test.SideTest.TheVariants.{IsFormula, IsFace, Holds}
+use Rattle.conditions.specs.declared.side_test.SideTest.TheVariants.{Alike}
 
 -- the row of the context
 abbrev pub ctx_in : SideTest → ℕ

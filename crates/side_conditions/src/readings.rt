@@ -122,7 +122,8 @@ impl Readings {
     /// Notes what a subtree is read as.
     pub fn insert(&mut self, at: Subtree, reading: Option<Reading>) -> Result<(), AllocError>
         ensures mark { self.new.mark ≡ self.old.mark }
-        ensures added { OnOk result (IsAdded at reading (reading_at self.old) (reading_at self.new)) }
+        ensures added { let known = reading_at self.old in
+            OnOk result (IsAdded at reading known (reading_at self.new)) }
     {
         match at.whole_row() {
             Some(row) if row.0 < self.mark => {

@@ -22,7 +22,8 @@ fn conclude_claims(
     nodes: &[NodeId],
     claims: &[Claim],
 ) -> Result<bool, AllocError>
-    requires { (Js : List Judgement) × (map (claimed (book_means book.now)) claims.now ≡ map Some Js) }
+    requires { (Js : List Judgement) ×
+        (map (claimed (book_means book.now)) claims.now ≡ map Some Js) }
     ensures { IfOk result (λ yes. IsTrue yes → (Js : List Judgement) →
         map (claimed (book_means book.now)) claims.now ≡ map Some Js →
         concluded_by book.now nodes.now ≡ Some Js) }

@@ -41,7 +41,8 @@ all_weights [] = 0
 all_weights (t ∷ ts) = suc (weight t) + all_weights ts
 
 -- the frame is that of an operator over its kids, under n binders at most
-pub record FrameStands (f : Meanings) (known : List (List Waiting)) (n : ℕ) (r : Frame) : Type 0 where
+pub record FrameStands (f : Meanings) (known : List (List Waiting)) (n : ℕ) (r : Frame) : Type 0
+  where
   pub count : length r.kids.now ≡ kids_of r.op
   pub rows : All (λ k. IsTree (f k)) r.kids.now
   pub environment_stands : Stands f known n r.environment

@@ -11,4 +11,5 @@ answer_to pairs q = lookup (eq-value.it q) pairs
 
 -- one more pair, unless the question has its answer
 abbrev pub with_answer : List (Question × Kept) → Question → Kept → List (Question × Kept)
-with_answer pairs q answer = if is_some (answer_to pairs q) then pairs else pairs ++ (q, answer) ∷ []
+with_answer pairs q answer =
+    if is_some (answer_to pairs q) then pairs else pairs ++ (q, answer) ∷ []
