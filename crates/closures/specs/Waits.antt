@@ -16,6 +16,6 @@ AllStand f n ws = All (λ w. IsDelayed f w.delayed) ws × All (λ w. w.depth ≤
 pub record WaitsFor (f : Meanings) (d : Subst) (weight : ℕ) (ws longer : List Waiting) : Type 0
   where
     pub means : (o : Option Thing) →
-      under o (delays f longer) ≡ under o (at_depth 0 d ∷ delays f ws)
+        under o (delays f longer) ≡ under o (at_depth 0 d ∷ delays f ws)
     pub stands : (n : ℕ) → AllStand f n ws → AllStand f n longer
     pub weighs : weight_of longer ≤ weight + weight_of ws

@@ -43,9 +43,9 @@ all_weights (t ∷ ts) = suc (weight t) + all_weights ts
 -- the frame is that of an operator over its kids, under n binders at most
 pub record FrameStands (f : Meanings) (known : List (List Waiting)) (n : ℕ) (r : Frame) : Type 0
   where
-  pub count : length r.kids.now ≡ kids_of r.op
-  pub rows : All (λ k. IsTree (f k)) r.kids.now
-  pub environment_stands : Stands f known n r.environment
+    pub count : length r.kids.now ≡ kids_of r.op
+    pub rows : All (λ k. IsTree (f k)) r.kids.now
+    pub environment_stands : Stands f known n r.environment
 
 -- the closure is that of the kid at a place
 pub record IsKidAt (f : Meanings) (known : List (List Waiting)) (r : Frame) (at : ℕ) (c : Closure) :
