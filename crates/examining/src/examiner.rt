@@ -57,7 +57,7 @@ fn check_direct(alloc: Global, book: &mut Book, defs: &[CodeDef]) -> Result<Dire
 }
 
 /// Does what is to be done.
-fn run(state: &mut Examiner, book: &mut Book, mut tasks: Tasks) -> Result<(), Stop> {
+pub(crate) fn run(state: &mut Examiner, book: &mut Book, mut tasks: Tasks) -> Result<(), Stop> {
     for _ in 0..u64::MAX {
         let Some(task) = tasks.items.pop() else {
             return Ok(());

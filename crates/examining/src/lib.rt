@@ -12,6 +12,8 @@
 //!     Examined::Spent(place) => ..,            // no answer within the budget
 //!     Examined::NotTaken(definition) => ..,
 //! }
+//! // in the scope of these, of `plus two two` the node [] >> plus two two : nat
+//! examine_term(alloc, &mut book, codes.as_slice(), &nodes, &code, 1_000_000)?
 //! ```
 #![tactic(auto)]
 
@@ -19,7 +21,9 @@ mod checking;
 mod examiner;
 mod inferring;
 mod steps;
+mod terms;
 
 pub use examiner::{Examined, Place, examine_definitions};
 pub use examining_state::{CheckFault, Kind};
+pub use terms::{ExaminedTerm, examine_term};
 pub use typing_steps::Root;
