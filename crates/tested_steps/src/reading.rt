@@ -1,6 +1,6 @@
 //! Nodes, read if they are there.
 
-ghost use Rattle.std.specs.Prelude.{◌≡◌, ◌<◌, IfOk, IfErr, None};
+ghost use Rattle.std.specs.Prelude.{◌≡◌, ◌<◌, IfOk, IfErr, IsSome, None};
 ghost use Rattle.trees.specs.Claimed.{claimed};
 ghost use Rattle.book.specs.Shown.{book_means, book_concludes};
 ghost use Rattle.tested_steps.specs.declared.fault.Fault.TheVariants as fault;
@@ -14,6 +14,7 @@ use theory::{Claim, PartKind, RuleName};
 pub fn claim_of(book: &Book, node: NodeId) -> Result<Claim, Fault>
     ensures claim { IfOk result (λ claim.
         claimed (book_means book.now) claim ≡ book_concludes book.now node.0) }
+    ensures there { IfOk result (λ _. IsSome (book_concludes book.now node.0)) }
     ensures none { IfErr result (λ found.
         (found ≡ fault.Misfit) × (book_concludes book.now node.0 ≡ None)) }
 {
