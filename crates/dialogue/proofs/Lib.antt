@@ -1,0 +1,4 @@
+pub mod WriteLemmas
+pub mod LineLaws
+pub mod StepLaws
+pub mod TalkLaws
