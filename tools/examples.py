@@ -10,7 +10,7 @@ prints, refusals with their lines and normal forms too. It runs in a folder with
 and `editors` in it; `$ cat FILE` writes the file where it isn't there yet. Of a command of `ctt`
 alone the status is the one that its first line wants. Of tables, the texts in `docs/LANGUAGE.md`
 that have an answer are answered so, or are read where they stand for a production, and the lines in
-`docs/FORMAT.md` are those of `two.drv`. `docs/CAUSES.md` has a heading for each cause of `session`.
+`docs/FORMAT.md` are those of `two.drv`. `docs/CAUSES.md` has a heading for each cause of `outcomes`.
 With a PAGE the blocks of that page alone are typed.
 """
 import pathlib
@@ -159,7 +159,7 @@ def rows():
 
 def causes():
     """The causes that have no heading in docs/CAUSES.md."""
-    named = (ROOT / "crates/session/src/refusal.rt").read_text()
+    named = (ROOT / "crates/outcomes/src/refusal.rt").read_text()
     headings = re.findall(r"^### (\w+)", (ROOT / "docs/CAUSES.md").read_text(), re.M)
     for cause in sorted(set(re.findall(r"Cause::(\w+) => \"", named)) - set(headings)):
         yield f"{cause} is not there"

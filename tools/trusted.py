@@ -29,7 +29,7 @@ START = [("ctt/src/main.rt", "run_to_end"), ("host_io/src/files.rt", "Files"),
          ("host_io/src/streams.rt", "Source"), ("host_io/src/streams.rt", "Sink")]
 
 # Laws on what the contract speaks of, which exclude that an answer means two things.
-LAWS = [("session/src/outcome.rt", "answers_exclude_each_other"),
+LAWS = [("session/src/exclusion.rt", "answers_exclude_each_other"),
         ("text_laws/src/lib.rt", "texts_determine_directness")]
 
 # The parts of the contract, each with the names of definitions that only later parts need.

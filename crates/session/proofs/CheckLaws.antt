@@ -2,10 +2,10 @@
 use Rattle.std.proofs.Common.{ℕ, List, refl, sym, subst, inl, inr}
 use Rattle.module_texts.specs.Texts.{Text}
 use Rattle.codes.specs.declared.code.CodeDef.{CodeDef}
-use Rattle.session.specs.declared.outcome.Outcome.{Outcome}
+use Rattle.outcomes.specs.declared.outcome.Outcome.{Outcome}
 use Rattle.session.specs.declared.job.Job.{Job}
 use Rattle.session.specs.declared.job.Job.TheVariants.{Tell, Store}
-use Rattle.session.specs.Outcomes.{IsUncounted}
+use Rattle.session.specs.Counted.{IsUncounted}
 use Rattle.session.specs.Jobs.{told_by}
 use Rattle.session.specs.Places.{IsRefusedAt}
 use Rattle.session.specs.Checks.{CheckJob, NotStored, OtherJob, not_inferred, spent, not_taken}

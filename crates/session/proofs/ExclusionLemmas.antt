@@ -7,10 +7,10 @@ use Rattle.trees.specs.Judgements.{Judgement}
 use Rattle.derivation.proofs.UniqueLaws.{derives_one, no_bad, bad_one}
 use Rattle.replay.specs.declared.judging.Verdict.TheVariants.{Yes, No}
 use Rattle.host_io.specs.Files.{Held, HoldsAt}
-use Rattle.session.specs.declared.outcome.Outcome.{Outcome}
-use Rattle.session.specs.declared.outcome.Outcome.TheVariants as outcome
+use Rattle.outcomes.specs.declared.outcome.Outcome.{Outcome}
+use Rattle.outcomes.specs.declared.outcome.Outcome.TheVariants as outcome
 use Rattle.session.specs.Modules.{DifferAt}
-use Rattle.session.specs.Outcomes.{plain_text, status_of}
+use Rattle.outcomes.proofs.ToldLaws.{SameAnswer, same_answer, same_missing}
 use Rattle.session.specs.Answers.{IsFound, IsReplayed, OneVerdict}
 
 pub one_verdict : OneVerdict
@@ -22,16 +22,6 @@ one_verdict bytes (Yes n k) (Yes m l) a b =
 one_verdict bytes (Yes n k) (No row) a b = absurd (no_bad bytes row a.0 b)
 one_verdict bytes (No row) (Yes m l) a b = absurd (no_bad bytes row b.0 a)
 one_verdict bytes (No row) (No other) a b = ap No (bad_one bytes row other a b)
-
--- they are told by one text and end with one status
-abbrev pub SameAnswer : Outcome → Outcome → Type 0
-SameAnswer one other = (plain_text one ≡ plain_text other) × (status_of one ≡ status_of other)
-
-pub same_answer : (one other : Outcome) → one ≡ other → SameAnswer one other
-same_answer one other e = (ap plain_text e, ap status_of e)
-
-pub same_missing : (p q : String Global) → string_bytes p ≡ string_bytes q → SameAnswer (outcome.MissingFile p) (outcome.MissingFile q)
-same_missing p q e = (ap (λ x. codes "no: MissingFile in " ++ (x ++ codes "\n")) e, refl)
 
 held_once : (path : List ℕ) (held : Held) (xs ys : List ℕ) → HoldsAt (Some held) path (Some xs) → HoldsAt (Some held) path (Some ys) → xs ≡ ys
 held_once path held xs ys a b = cc

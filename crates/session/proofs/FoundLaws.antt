@@ -6,7 +6,7 @@ use Rattle.derivation.proofs.UniqueLaws.{derives_one}
 use Rattle.replay.specs.declared.judging.Verdict.{Verdict}
 use Rattle.replay.specs.declared.judging.Verdict.TheVariants.{Yes, No}
 use Rattle.replay.specs.Verdicts.{VerdictIs}
-use Rattle.session.specs.declared.outcome.Outcome.TheVariants as outcome
+use Rattle.outcomes.specs.declared.outcome.Outcome.TheVariants as outcome
 use Rattle.session.specs.declared.program.Program.{Program}
 use Rattle.session.specs.Loaded.{codes_of, wanted_by}
 use Rattle.session.specs.Modules.{DifferAt}

@@ -9,12 +9,12 @@ use Rattle.host_io.specs.declared.files.Stored.TheVariants as stored
 use Rattle.module_texts.specs.Texts.{Text}
 use Rattle.resolver.specs.declared.resolving.Codes.{Codes}
 use Rattle.resolver.specs.Resolved.{defs_in}
-use Rattle.session.specs.declared.outcome.Outcome.{Outcome}
-use Rattle.session.specs.declared.outcome.Outcome.TheVariants as outcome
+use Rattle.outcomes.specs.declared.outcome.Outcome.{Outcome}
+use Rattle.outcomes.specs.declared.outcome.Outcome.TheVariants as outcome
 use Rattle.session.specs.declared.job.Job.{Job}
 use Rattle.session.specs.declared.job.Job.TheVariants.{Tell, Store}
 use Rattle.session.specs.Loaded.{IsRead}
-use Rattle.session.specs.Outcomes.{IsCounted, IsUncounted}
+use Rattle.session.specs.Counted.{IsCounted, IsUncounted}
 use Rattle.session.specs.Jobs.{CarriesOut, Does, Jobs, Leaves, MayDo, MayLeave, done, left, told_by, told_stored}
 use Rattle.session.proofs.LoadedLaws.{told_is}
 

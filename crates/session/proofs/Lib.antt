@@ -13,4 +13,3 @@ pub mod CheckLaws
 pub mod NormalLaws
 pub mod RunLemmas
 pub mod OneCheckLaws
-mod JsonLaws

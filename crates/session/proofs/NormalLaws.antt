@@ -19,10 +19,10 @@ use Rattle.resolver.specs.Resolved.{defs_in}
 use Rattle.linking.specs.Linked.{IsLinked}
 use Rattle.module_texts.specs.Texts.{Text}
 use Rattle.codes.specs.declared.code.CodeDef.{CodeDef}
-use Rattle.session.specs.declared.outcome.Outcome.{Outcome}
+use Rattle.outcomes.specs.declared.outcome.Outcome.{Outcome}
 use Rattle.session.specs.declared.job.Job.{Job}
 use Rattle.session.specs.declared.job.Job.TheVariants.{Tell, Store}
-use Rattle.session.specs.Outcomes.{IsUncounted}
+use Rattle.session.specs.Counted.{IsUncounted}
 use Rattle.session.specs.Jobs.{told_by}
 use Rattle.session.specs.declared.normal_command.Shown.{Shown}
 use Rattle.session.specs.declared.normal_command.Normalised.TheVariants as normalised

@@ -9,9 +9,9 @@ use Rattle.resolver.specs.declared.resolving.Codes.{Codes}
 use Rattle.resolver.specs.Resolved.{defs_in}
 use Rattle.linking.specs.Modules.{AreFine, meanings}
 use Rattle.direct.specs.Direct.{other_place}
-use Rattle.session.specs.declared.outcome.Outcome.{Outcome}
-use Rattle.session.specs.declared.outcome.Outcome.TheVariants as outcome
-use Rattle.session.specs.Refusals.{refusal}
+use Rattle.outcomes.specs.declared.outcome.Outcome.{Outcome}
+use Rattle.outcomes.specs.declared.outcome.Outcome.TheVariants as outcome
+use Rattle.outcomes.specs.Refusals.{refusal}
 use Rattle.session.specs.Loaded.{IsRead}
 use Rattle.session.specs.Modules.{NotLoaded, NotResolved}
 use Rattle.session.specs.declared.job.Job.{Job}
@@ -21,7 +21,7 @@ use Rattle.session.specs.Places.{places}
 use Rattle.session.specs.Checks.{CheckJob, NotStored, not_inferred, spent, not_taken}
 use Rattle.codes.specs.declared.code.CodeDef.{CodeDef}
 use Rattle.session.specs.Answers.{AreDirect, IsOfText, OneCheck}
-use Rattle.session.proofs.ExclusionLemmas.{SameAnswer, same_answer}
+use Rattle.outcomes.proofs.ToldLaws.{SameAnswer, same_answer}
 use Rattle.session.proofs.ModuleLaws.{fine_or_refused}
 use Rattle.session.proofs.AnswerLaws.{loaded_one, loaded_or_not, both_not_loaded, both_not_resolved, of_text}
 

@@ -8,11 +8,11 @@ use Rattle.trees.specs.Judgements.{Judgement}
 use Rattle.translation.specs.Translated.{judgements_of}
 use Rattle.session.specs.declared.program.Program.{Program}
 use Rattle.resolver.specs.Resolved.{defs_in}
-use Rattle.session.specs.declared.outcome.Outcome.{Outcome}
-use Rattle.session.specs.declared.outcome.Outcome.TheVariants as outcome
+use Rattle.outcomes.specs.declared.outcome.Outcome.{Outcome}
+use Rattle.outcomes.specs.declared.outcome.Outcome.TheVariants as outcome
 use Rattle.session.specs.Modules.{Spells}
 use Rattle.session.specs.Loaded.{IsProgram, codes_of, stated_by, texts_of, wanted_by}
-use Rattle.session.specs.Outcomes.{IsCounted}
+use Rattle.session.specs.Counted.{IsCounted}
 use Rattle.session.specs.Answers.{IsFound, IsReplayed, MayReplay, replayed}
 
 -- these judgements are wanted: none, or those that the module spells

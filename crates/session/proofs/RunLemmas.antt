@@ -4,8 +4,8 @@ use Rattle.host_io.specs.Seen.{SeenFiles}
 use Rattle.host_io.specs.declared.files.Stored.{Stored}
 use Rattle.host_io.specs.declared.files.Stored.TheVariants as stored
 use Rattle.command_words.specs.Words.{Command, Check, Replay, Normal, Prompt, Make}
-use Rattle.session.specs.declared.outcome.Outcome.{Outcome}
-use Rattle.session.specs.declared.outcome.Outcome.TheVariants as outcome
+use Rattle.outcomes.specs.declared.outcome.Outcome.{Outcome}
+use Rattle.outcomes.specs.declared.outcome.Outcome.TheVariants as outcome
 use Rattle.session.specs.declared.job.Job.{Job}
 use Rattle.session.specs.declared.job.Job.TheVariants.{Tell, Store}
 use Rattle.session.specs.Jobs.{Does, Jobs, Leaves, MayDo, MayLeave, told_stored, nothing, left, not_loaded, not_resolved, done}

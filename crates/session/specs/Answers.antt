@@ -9,13 +9,14 @@ use Rattle.derivation.specs.Right.{AllRight, Derives, FirstBad}
 use Rattle.replay.specs.declared.judging.Verdict.{Verdict}
 use Rattle.replay.specs.declared.judging.Verdict.TheVariants.{Yes, No}
 use Rattle.replay.specs.Verdicts.{VerdictIs}
-use Rattle.session.specs.declared.outcome.Status.{Status}
-use Rattle.session.specs.declared.outcome.Status.TheVariants as status
-use Rattle.session.specs.declared.outcome.Outcome.{Outcome}
-use Rattle.session.specs.declared.outcome.Outcome.TheVariants as outcome
+use Rattle.outcomes.specs.declared.outcome.Status.{Status}
+use Rattle.outcomes.specs.declared.outcome.Status.TheVariants as status
+use Rattle.outcomes.specs.declared.outcome.Outcome.{Outcome}
+use Rattle.outcomes.specs.declared.outcome.Outcome.TheVariants as outcome
 use Rattle.command_words.specs.Words.{Command, Check, Replay, Normal, Prompt, Make}
-use Rattle.session.specs.Outcomes.{plain_text, status_of, IsCounted, StoresNothing}
-use Rattle.session.specs.Json.{text_in}
+use Rattle.outcomes.specs.Outcomes.{plain_text, status_of}
+use Rattle.session.specs.Counted.{IsCounted, StoresNothing}
+use Rattle.outcomes.specs.Json.{text_in}
 use Rattle.session.specs.Modules.{DifferAt, NotLoaded, NotResolved, Spells}
 use Rattle.module_texts.specs.Texts.{Text}
 use Rattle.resolver.specs.declared.resolving.Codes.{Codes}

@@ -9,11 +9,11 @@ use Rattle.book_writer.specs.Written.{IsWritten}
 use Rattle.direct.specs.Direct.{other_place}
 use Rattle.evidence.specs.declared.lines.Evidence.{Evidence}
 use Rattle.examining.specs.declared.examiner.Place.{Place}
-use Rattle.session.specs.declared.outcome.Outcome.{Outcome}
-use Rattle.session.specs.declared.outcome.Outcome.TheVariants as outcome
-use Rattle.session.specs.declared.refusal.Cause.{Cause}
-use Rattle.session.specs.declared.refusal.Cause.TheVariants as cause
-use Rattle.session.specs.declared.refusal.Refusal.{Refusal}
+use Rattle.outcomes.specs.declared.outcome.Outcome.{Outcome}
+use Rattle.outcomes.specs.declared.outcome.Outcome.TheVariants as outcome
+use Rattle.outcomes.specs.declared.refusal.Cause.{Cause}
+use Rattle.outcomes.specs.declared.refusal.Cause.TheVariants as cause
+use Rattle.outcomes.specs.declared.refusal.Refusal.{Refusal}
 use Rattle.session.specs.declared.job.Job.{Job}
 use Rattle.session.specs.declared.job.Job.TheVariants.{Tell, Store}
 use Rattle.session.specs.declared.check_command.Checks.{Checks}

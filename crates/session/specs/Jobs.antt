@@ -11,13 +11,13 @@ use Rattle.module_texts.specs.Texts.{Text}
 use Rattle.resolver.specs.declared.resolving.Codes.{Codes}
 use Rattle.codes.specs.declared.code.CodeDef.{CodeDef}
 use Rattle.resolver.specs.Resolved.{defs_in}
-use Rattle.session.specs.declared.outcome.Outcome.{Outcome}
-use Rattle.session.specs.declared.outcome.Outcome.TheVariants as outcome
+use Rattle.outcomes.specs.declared.outcome.Outcome.{Outcome}
+use Rattle.outcomes.specs.declared.outcome.Outcome.TheVariants as outcome
 use Rattle.session.specs.declared.job.Job.{Job}
 use Rattle.session.specs.declared.job.Job.TheVariants.{Tell, Store}
 use Rattle.session.specs.Loaded.{IsRead}
 use Rattle.session.specs.Modules.{NotLoaded, NotResolved}
-use Rattle.session.specs.Outcomes.{StoresNothing}
+use Rattle.session.specs.Counted.{StoresNothing}
 
 -- what a store of bytes at a path did to the files
 pub record IsStored (path bytes : List ℕ) (old new : SeenFiles) (answer : Stored) : Type 0 where

@@ -1,7 +1,5 @@
 pub mod Writes
-pub mod Refusals
-pub mod Outcomes
-pub mod Json
+pub mod Counted
 pub mod Modules
 pub mod Loaded
 pub mod Jobs

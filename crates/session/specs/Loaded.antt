@@ -13,10 +13,10 @@ use Rattle.module_texts.specs.Texts.{Text, text_of}
 use Rattle.resolver.specs.declared.resolving.Codes.{Codes}
 use Rattle.resolver.specs.Resolved.{defs_in}
 use Rattle.linking.specs.Linked.{IsLinked}
-use Rattle.session.specs.declared.outcome.Outcome.{Outcome}
+use Rattle.outcomes.specs.declared.outcome.Outcome.{Outcome}
 use Rattle.session.specs.declared.program.Program.{Program}
 use Rattle.session.specs.Modules.{AreLoaded, NotLoaded, NotResolved}
-use Rattle.session.specs.Outcomes.{IsCounted}
+use Rattle.session.specs.Counted.{IsCounted}
 
 abbrev pub stated_by : List CodeDef → List (Stated ℕ)
 stated_by defs = (definitions defs []).stated

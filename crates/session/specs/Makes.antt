@@ -5,12 +5,12 @@ use Rattle.std.specs.declared.alloc.Global.{Global}
 use Rattle.trees.specs.Judgements.{Judgement}
 use Rattle.host_io.specs.Files.{Held}
 use Rattle.generated_module.specs.Generated.{generated}
-use Rattle.session.specs.declared.outcome.Outcome.{Outcome}
-use Rattle.session.specs.declared.outcome.Outcome.TheVariants as outcome
-use Rattle.session.specs.declared.outcome.Status.TheVariants as status
+use Rattle.outcomes.specs.declared.outcome.Outcome.{Outcome}
+use Rattle.outcomes.specs.declared.outcome.Outcome.TheVariants as outcome
+use Rattle.outcomes.specs.declared.outcome.Status.TheVariants as status
 use Rattle.session.specs.Modules.{Spells}
 use Rattle.session.specs.Normals.{AreProved}
-use Rattle.session.specs.Outcomes.{status_of}
+use Rattle.outcomes.specs.Outcomes.{status_of}
 
 -- the module of so many definitions, held alone
 abbrev pub alone : ℕ → Held

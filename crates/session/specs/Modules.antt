@@ -9,8 +9,8 @@ use Rattle.loading.specs.declared.text.LoadFault.{LoadFault}
 use Rattle.module_texts.specs.Texts.{Text, path_of}
 use Rattle.loading.specs.Loading.{Loads, Refuses}
 use Rattle.linking.specs.Modules.{AreFine, RefusedFirst, judgements, meanings}
-use Rattle.session.specs.declared.outcome.Outcome.{Outcome}
-use Rattle.session.specs.Refusals.{told_load, told_scope}
+use Rattle.outcomes.specs.declared.outcome.Outcome.{Outcome}
+use Rattle.outcomes.specs.Refusals.{told_load, told_scope}
 
 -- these are the modules that are loaded for one of that name
 abbrev pub AreLoaded : Option Held → List ℕ → List Text → Type 0
@@ -40,7 +40,7 @@ pub record NotResolved (held : Option Held) (name : List ℕ) (told : Outcome) :
   pub refuses : RefusedFirst texts at fault
   pub path : String Global
   pub path_is : string_bytes path ≡ path_of refused.name
-  pub is_told : told_scope fault path ≡ Some told
+  pub is_told : told_scope fault (Some path) ≡ Some told
 
 -- the first place where two lists differ, or one has ended
 pub record DifferAt {A : Type 0} (xs ys : List A) (k : ℕ) : Type 0 where

@@ -19,16 +19,16 @@ use Rattle.book_writer.specs.Written.{IsWritten}
 use Rattle.normal_parts.specs.Normal.{Normal}
 use Rattle.fixed_names.specs.Fixed.{none_fixed}
 use Rattle.tree_texts.specs.Show.{shown}
-use Rattle.session.specs.declared.outcome.Outcome.{Outcome}
-use Rattle.session.specs.declared.outcome.Outcome.TheVariants as outcome
-use Rattle.session.specs.declared.refusal.Cause.TheVariants as cause
+use Rattle.outcomes.specs.declared.outcome.Outcome.{Outcome}
+use Rattle.outcomes.specs.declared.outcome.Outcome.TheVariants as outcome
+use Rattle.outcomes.specs.declared.refusal.Cause.TheVariants as cause
 use Rattle.session.specs.declared.job.Job.{Job}
 use Rattle.session.specs.declared.job.Job.TheVariants.{Tell, Store}
 use Rattle.session.specs.declared.normal_command.Asked.{Asked}
 use Rattle.session.specs.declared.normal_command.Shown.{Shown}
 use Rattle.session.specs.declared.normal_command.Normalised.{Normalised}
 use Rattle.session.specs.declared.normal_command.Normalised.TheVariants as normalised
-use Rattle.session.specs.Refusals.{refusal}
+use Rattle.outcomes.specs.Refusals.{refusal}
 use Rattle.session.specs.Loaded.{stated_by}
 use Rattle.session.specs.Places.{IsLastNamed, IsRefusedAt, IsSpentAt}
 use Rattle.session.specs.Others.{IsOther}
@@ -78,7 +78,7 @@ pub data NotShown (name part : List ℕ) (turns : ℕ) (texts : List Text) (defs
     (told : Outcome) : Type 0 where
   not_stored : NotStored texts defs turns told → NotShown name part turns texts defs told
   nameless : AreProved (judgements texts) → IsLastNamed texts part None → (path : String Global)
-      → string_bytes path ≡ path_of name → told ≡ refusal cause.NoSuchName None path
+      → string_bytes path ≡ path_of name → told ≡ refusal cause.NoSuchName None (Some path)
       → NotShown name part turns texts defs told
   spent : AreProved (judgements texts) → (k : ℕ) → IsLastNamed texts part (Some k)
       → IsSpentAt texts defs k turns told → NotShown name part turns texts defs told

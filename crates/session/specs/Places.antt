@@ -11,13 +11,13 @@ use Rattle.codes.specs.declared.code.Code.{GlueType', GlueTerm', Unglue'}
 use Rattle.codes.specs.declared.code.CodeDef.{CodeDef, out-CodeDef}
 use Rattle.module_texts.specs.Texts.{Text, name_at, path_of}
 use Rattle.linking.specs.Modules.{names_in}
-use Rattle.session.specs.declared.outcome.Outcome.{Outcome}
-use Rattle.session.specs.declared.outcome.Outcome.TheVariants as outcome
-use Rattle.session.specs.declared.refusal.Cause.{Cause}
-use Rattle.session.specs.declared.refusal.Cause.TheVariants as cause
-use Rattle.session.specs.declared.refusal.Refusal.{Refusal}
+use Rattle.outcomes.specs.declared.outcome.Outcome.{Outcome}
+use Rattle.outcomes.specs.declared.outcome.Outcome.TheVariants as outcome
+use Rattle.outcomes.specs.declared.refusal.Cause.{Cause}
+use Rattle.outcomes.specs.declared.refusal.Cause.TheVariants as cause
+use Rattle.outcomes.specs.declared.refusal.Refusal.{Refusal}
 use Rattle.examining.specs.declared.examiner.Place.{Place}
-use Rattle.session.specs.Refusals.{refusal}
+use Rattle.outcomes.specs.Refusals.{refusal}
 
 -- a definition's module, and where it is named there
 pub record Named : Type 0 where
@@ -51,7 +51,7 @@ pub record IsRefusedAt (texts : List Text) (k : ℕ) (told : Outcome) : Type 0 w
   pub is : slice_get (places texts) k ≡ Some place
   pub path : String Global
   pub path_is : string_bytes path ≡ path_of place.holder.name
-  pub is_told : told ≡ refusal cause.RefusedForm (Some place.name.start) path
+  pub is_told : told ≡ refusal cause.RefusedForm (Some place.name.start) (Some path)
 
 -- What stands at a byte of the definition at that place is refused, for that cause.
 pub record IsRefusalIn (texts : List Text) (at : Place) (why : Cause) (told : Refusal) :
@@ -60,7 +60,9 @@ pub record IsRefusalIn (texts : List Text) (at : Place) (why : Cause) (told : Re
   pub is : slice_get (places texts) at.definition ≡ Some place
   pub cause_is : told.cause ≡ why
   pub at_is : told.at ≡ Some at.at
-  pub path_is : string_bytes told.path ≡ path_of place.holder.name
+  pub path : String Global
+  pub path_is : string_bytes path ≡ path_of place.holder.name
+  pub is_path : told.path ≡ Some path
 
 -- The budget was spent on what stands there.
 pub record IsSpentIn (texts : List Text) (at : Place) (turns : ℕ) (told : Outcome) : Type 0 where
@@ -68,7 +70,7 @@ pub record IsSpentIn (texts : List Text) (at : Place) (turns : ℕ) (told : Outc
   pub is : slice_get (places texts) at.definition ≡ Some place
   pub path : String Global
   pub path_is : string_bytes path ≡ path_of place.holder.name
-  pub is_told : told ≡ outcome.Spent turns at.at path
+  pub is_told : told ≡ outcome.Spent turns at.at (Some path)
 
 -- the piece of the text that a code spells
 abbrev pub span_of : Code → Span
@@ -105,4 +107,4 @@ pub record IsSpentAt (texts : List Text) (defs : List CodeDef) (k turns : ℕ) (
   pub code_is : slice_get defs k ≡ Some code
   pub path : String Global
   pub path_is : string_bytes path ≡ path_of place.holder.name
-  pub is_told : told ≡ outcome.Spent turns (span_of (out-CodeDef code).body).start path
+  pub is_told : told ≡ outcome.Spent turns (span_of (out-CodeDef code).body).start (Some path)

@@ -4,8 +4,8 @@ use Rattle.trees.specs.declared.op.Op.TheVariants as op
 use Rattle.trees.specs.Trees.{Tree}
 use Rattle.evidence.specs.declared.lines.Evidence.{Evidence}
 use Rattle.evidence.specs.Told.{IsTypeShown, IsUniverse, TwoShown}
-use Rattle.session.specs.declared.refusal.Cause.{Cause}
-use Rattle.session.specs.declared.refusal.Cause.TheVariants as cause
+use Rattle.outcomes.specs.declared.refusal.Cause.{Cause}
+use Rattle.outcomes.specs.declared.refusal.Cause.TheVariants as cause
 use Rattle.session.specs.declared.refutals.Refutal.{Refutal}
 use Rattle.session.specs.declared.refutals.Refutal.TheVariants.{CannotInfer, Shown}
 

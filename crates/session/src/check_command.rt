@@ -7,15 +7,15 @@ ghost use Rattle.linking.specs.Linked.{IsLinked};
 ghost use Rattle.session.specs.Checks.{CheckJob, IsChecked, derivation_path};
 ghost use Rattle.session.specs.Jobs.{MayDo, MayLeave};
 ghost use Rattle.session.specs.Loaded.{texts_of};
-ghost use Rattle.session.specs.Outcomes.{IsCounted};
+ghost use Rattle.session.specs.Counted.{IsCounted};
 
 use crate::found::{Found, derivation_of, found_of};
 use crate::job::{Job, carry_out};
 use crate::others::{Other, other_job, other_of};
-use crate::outcome::Outcome;
 use crate::program::{Program, read_program};
 use book::Book;
 use host_io::Files;
+use outcomes::Outcome;
 use resolver::CodeDef;
 use std::alloc::{AllocError, Global};
 

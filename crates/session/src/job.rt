@@ -3,8 +3,8 @@
 ghost use Rattle.host_io.specs.Seen.{seen_files};
 ghost use Rattle.session.specs.Jobs.{CarriesOut};
 
-use crate::outcome::Outcome;
 use host_io::{Files, Stored};
+use outcomes::Outcome;
 use std::alloc::AllocError;
 
 /// What a command comes to once its module is read.

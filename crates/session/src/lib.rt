@@ -8,20 +8,18 @@
 #![tactic(auto)]
 
 mod check_command;
+mod exclusion;
 mod found;
 mod job;
-mod json_answers;
 mod make_command;
 mod normal_command;
 mod others;
-mod outcome;
 mod places;
 mod program;
-mod refusal;
 mod refutals;
 mod replay_command;
 mod roots;
 mod top;
 
-pub use outcome::{Status, answers_exclude_each_other};
+pub use exclusion::answers_exclude_each_other;
 pub use top::run;

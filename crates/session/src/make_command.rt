@@ -6,20 +6,19 @@ ghost use Rattle.std.specs.FinMap.{empty, insert};
 ghost use Rattle.linking.specs.Linked.{IsLinked};
 ghost use Rattle.linking.specs.Modules.{judgements};
 ghost use Rattle.replay.specs.declared.judging.Verdict.TheVariants.{Yes};
-ghost use Rattle.session.specs.declared.outcome.Outcome.TheVariants.{Judged};
+ghost use Rattle.outcomes.specs.declared.outcome.Outcome.TheVariants.{Judged};
 ghost use Rattle.session.specs.Loaded.{texts_of};
 ghost use Rattle.session.specs.Makes.{Makes};
 ghost use Rattle.session.specs.Normals.{AreProved};
-ghost use Rattle.session.specs.Outcomes.{status_of};
+ghost use Rattle.outcomes.specs.Outcomes.{status_of};
 
 use crate::found::{Found, derivation_of, found_of};
-use crate::outcome::{Outcome, Status};
 use crate::program::{Program, read_program};
-use crate::refusal::{Cause, refused};
 use crate::replay_command::judged;
 use book::Book;
 use generated_module::generated;
 use host_io::MemFiles;
+use outcomes::{Cause, Outcome, Status, refused};
 use replay::Verdict;
 use std::alloc::{AllocError, Global};
 
@@ -69,7 +68,7 @@ fn not_made(alloc: Global) -> Result<Outcome, AllocError>
     ensures { IfOk result (λ told. status_of told ≡ Status.No) }
 {
     let path = String::from_str(alloc, "Gen.ctt")?;
-    Ok(refused(Cause::RefusedForm, None, path))
+    Ok(refused(Cause::RefusedForm, None, Some(path)))
 }
 
 /// Makes the module of so many definitions, checks it in memory, and judges its derivation. The

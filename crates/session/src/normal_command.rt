@@ -8,21 +8,20 @@ ghost use Rattle.linking.specs.Linked.{IsLinked};
 ghost use Rattle.session.specs.Jobs.{MayDo, MayLeave};
 ghost use Rattle.session.specs.Loaded.{texts_of};
 ghost use Rattle.session.specs.Normals.{Comes, ComesOf, IsShown, asked_job, normal_path};
-ghost use Rattle.session.specs.Outcomes.{IsCounted};
+ghost use Rattle.session.specs.Counted.{IsCounted};
 ghost use Rattle.session.specs.declared.normal_command.Shown.{Shown};
 
 use crate::found::{Found, derivation_of, found_of};
 use crate::job::{Job, carry_out};
 use crate::others::{Other, other_job, other_of};
-use crate::outcome::Outcome;
 use crate::places::{last_named, refused_at, spent_at};
 use crate::program::{Program, read_program};
-use crate::refusal::{Cause, refused};
 use answering::{Reached, normalise};
 use book::{Book, NodeId};
 use host_io::Files;
 use module_texts::path_of;
 use normality::is_normal_where;
+use outcomes::{Cause, Outcome, refused};
 use resolver::CodeDef;
 use stated_roots::{are_stated, other_side};
 use std::alloc::{AllocError, Global};
@@ -177,7 +176,7 @@ fn normal_job(alloc: Global, program: &Program, asked: Asked<'_>) -> Result<Job,
         }
         Normalised::Nameless => {
             let path = path_of(alloc, asked.module_name)?;
-            Ok(Job::Tell(refused(Cause::NoSuchName, None, path)))
+            Ok(Job::Tell(refused(Cause::NoSuchName, None, Some(path))))
         }
         Normalised::Spent(place) => { Ok(Job::Tell(spent_at(alloc, program, place, asked.turns)?)) }
         Normalised::NotTaken(place) => Ok(Job::Tell(refused_at(alloc, program, place)?)),

@@ -12,14 +12,13 @@ ghost use Rattle.session.specs.Refutals.{IsRefutal};
 
 use crate::found::Reason;
 use crate::job::Job;
-use crate::outcome::Outcome;
 use crate::places::{refusal_at, refused_at, spent_in};
 use crate::program::Program;
-use crate::refusal::Cause;
 use crate::refutals::{Refutal, refutal_of};
 use book::Book;
 use evidence::Evidence;
 use examining::Place;
+use outcomes::{Cause, Outcome};
 use std::alloc::{AllocError, Global};
 
 /// What comes of definitions that are not all typed.

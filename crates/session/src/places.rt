@@ -8,13 +8,12 @@ ghost use Rattle.session.specs.Loaded.{texts_of};
 ghost use Rattle.session.specs.Places.{IsLastNamed, IsRefusalIn, IsRefusedAt, IsSpentAt};
 ghost use Rattle.session.specs.Places.{IsSpentIn, Named, names, places, span_of};
 
-use crate::outcome::Outcome;
 use crate::program::Program;
-use crate::refusal::{Cause, Refusal, refused};
 use codes::Code;
 use examining::Place;
 use layout_lexer::Span;
 use module_texts::{ModuleText, name_at, path_of};
+use outcomes::{Cause, Outcome, Refusal, refused};
 use std::alloc::{AllocError, Global};
 
 /// The module that holds the definition at this place among those of all modules.
@@ -47,7 +46,7 @@ pub(crate) fn refused_at(
 {
     let name = program.codes.as_slice()[place].name;
     let path = path_of(alloc, holder(&program.texts, place).name.as_str())?;
-    Ok(refused(Cause::RefusedForm, Some(name.start), path))
+    Ok(refused(Cause::RefusedForm, Some(name.start), Some(path)))
 }
 
 /// The piece of the text that a code spells.
@@ -99,8 +98,11 @@ pub(crate) fn refusal_at(
         alloc,
         holder(&program.texts, place.definition).name.as_str(),
     )?;
-    let at = Some(place.at);
-    Ok(Refusal { cause, at, path })
+    Ok(Refusal {
+        cause,
+        at: Some(place.at),
+        path: Some(path),
+    })
 }
 
 /// Tells that the budget was spent on what stands at a byte of the definition at this place among
@@ -119,8 +121,11 @@ pub(crate) fn spent_in(
         alloc,
         holder(&program.texts, place.definition).name.as_str(),
     )?;
-    let at = place.at;
-    Ok(Outcome::Spent { turns, at, path })
+    Ok(Outcome::Spent {
+        turns,
+        at: place.at,
+        path: Some(path),
+    })
 }
 
 /// Tells that the budget was spent on the body of the definition at this place among those of all
@@ -138,7 +143,11 @@ pub(crate) fn spent_at(
 {
     let at = span_of(&program.codes.as_slice()[place].body).start;
     let path = path_of(alloc, holder(&program.texts, place).name.as_str())?;
-    Ok(Outcome::Spent { turns, at, path })
+    Ok(Outcome::Spent {
+        turns,
+        at,
+        path: Some(path),
+    })
 }
 
 /// Whether the definition at this place among those of all modules has the name.

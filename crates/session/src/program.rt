@@ -2,15 +2,14 @@
 
 ghost use Rattle.std.specs.Prelude.{IfOk};
 ghost use Rattle.host_io.specs.Seen.{seen_files};
-ghost use Rattle.session.specs.Outcomes.{StoresNothing};
+ghost use Rattle.session.specs.Counted.{StoresNothing};
 ghost use Rattle.session.specs.Loaded.{IsProgram};
 
-use crate::outcome::Outcome;
-use crate::refusal::{of_load, of_scope};
 use host_io::Files;
 use linking::link;
 use loading::load;
 use module_texts::{ModuleText, path_of};
+use outcomes::{Outcome, of_load, of_scope};
 use resolver::Codes;
 use std::alloc::{AllocError, Global};
 
@@ -42,7 +41,7 @@ pub(crate) fn read_program<F: Files>(
         Ok(codes) => Ok(Ok(Program { texts, codes })),
         Err(refused) => {
             let path = path_of(alloc, texts[refused.module].name.as_str())?;
-            Ok(Err(of_scope(refused.fault, path)?))
+            Ok(Err(of_scope(refused.fault, Some(path))?))
         }
     }
 }

@@ -6,10 +6,10 @@ ghost use Rattle.evidence.specs.Told.{IsTypeShown};
 ghost use Rattle.session.specs.Refutals.{IsEvidence, IsRefutal};
 ghost use Rattle.session.specs.declared.refutals.Refutal.{Refutal};
 
-use crate::refusal::Cause;
 use book::Book;
 use evidence::{Evidence, differing, of_type, of_universe};
 use examining::{CheckFault, Kind};
+use outcomes::Cause;
 use rows::TermId;
 use std::alloc::{AllocError, Global};
 use theory::Op;

@@ -4,13 +4,13 @@ ghost use Rattle.std.specs.Prelude.{IfOk};
 ghost use Rattle.std.specs.Option.{option_map};
 ghost use Rattle.host_io.specs.Seen.{seen_files};
 ghost use Rattle.session.specs.Answers.{IsFound, MayReplay};
-ghost use Rattle.session.specs.Outcomes.{IsCounted, StoresNothing};
+ghost use Rattle.session.specs.Counted.{IsCounted, StoresNothing};
 ghost use Rattle.session.specs.Loaded.{codes_of, wanted_by};
 
-use crate::outcome::Outcome;
 use crate::program::{Program, read_program};
 use crate::roots::first_other_root;
 use host_io::{Fetched, Files};
+use outcomes::Outcome;
 use replay::{Verdict, judge};
 use std::alloc::{AllocError, Global};
 

@@ -4,8 +4,8 @@ ghost use Rattle.std.specs.Prelude.{◌≡◌, ◌≢◌, [], IfOk, IsErr};
 ghost use Rattle.host_io.specs.Seen.{seen_files, seen_source, seen_sink};
 ghost use Rattle.std.specs.Option.{option_map};
 ghost use Rattle.session.specs.Answers.{MayAnswer, MayStore, Printed, Ran, wants_json, world};
-ghost use Rattle.session.specs.Json.{text_in};
-ghost use Rattle.session.specs.Outcomes.{status_of};
+ghost use Rattle.outcomes.specs.Json.{text_in};
+ghost use Rattle.outcomes.specs.Outcomes.{status_of};
 ghost use Rattle.command_words.specs.Read.{command_read};
 ghost use Rattle.command_words.specs.Words.{command, texts};
 ghost use Rattle.session.specs.Writes.{Wrote, WroteSome};
@@ -13,10 +13,10 @@ ghost use Rattle.session.specs.Writes.{Wrote, WroteSome};
 use crate::check_command::check;
 use crate::make_command::make;
 use crate::normal_command::{Asked, normal};
-use crate::outcome::{Outcome, Status};
 use crate::replay_command::replay;
 use command_words::{Command, command_of};
 use host_io::{Files, Sink, Source, Took};
+use outcomes::{Outcome, Status};
 use std::alloc::{AllocError, Global};
 
 /// A write that failed.

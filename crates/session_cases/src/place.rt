@@ -2,7 +2,8 @@
 
 use crate::loaded::{loaded_shown, put_chain};
 use host_io::{MemFiles, MemSink, MemSource};
-use session::{Status, run};
+use outcomes::Status;
+use session::run;
 use std::alloc::{AllocError, Global};
 
 /// The bytes that an output takes where nothing else is said.

@@ -3,7 +3,7 @@ use Rattle.translation.specs.Translated.{judgements_of}
 use Rattle.book_writer.specs.Written.{IsWritten}
 use Rattle.session.specs.Checks.{IsChecked}
 use Rattle.session.specs.Loaded.{stated_by, texts_of}
-use Rattle.session.specs.declared.outcome.Outcome.TheVariants as outcome
+use Rattle.outcomes.specs.declared.outcome.Outcome.TheVariants as outcome
 use Rattle.session.proofs.PlaceLaws.{count_of_places}
 use Rattle.session.proofs.check_command.check_job.Goals as goal
 

@@ -8,7 +8,7 @@ use Rattle.session.specs.Loaded.{IsProgram, stated_by}
 use Rattle.session.specs.Makes.{alone}
 use Rattle.session.specs.Modules.{Spells}
 use Rattle.session.specs.Normals.{AreProved}
-use Rattle.session.specs.declared.outcome.Outcome.TheVariants as outcome
+use Rattle.outcomes.specs.declared.outcome.Outcome.TheVariants as outcome
 use Rattle.session.proofs.ReplayLaws.{spelt}
 use Rattle.session.proofs.make_command.make.Goals as goal
 

@@ -20,5 +20,7 @@ returns c =
       is = subst (λ xs. slice_get (places (map text_of xs)) c.args.place.definition ≡ Some at) c.deref.ensures.value found.1;
       cause_is = refl;
       at_is = refl;
+      path = c.in_ok-path.path;
       path_is = c.in_ok-path.ensures ∙ ap path_of (c.as_str.ensures.value ∙ ap (λ (x : Text). x.name) (sym found.2));
+      is_path = refl;
     }

@@ -4,8 +4,8 @@ use Rattle.layout_lexer.specs.declared.token.Span.{Span}
 use Rattle.module_texts.specs.Texts.{Text, path_of, text_of}
 use Rattle.session.specs.Loaded.{texts_of}
 use Rattle.session.specs.Places.{places}
-use Rattle.session.specs.Refusals.{refusal}
-use Rattle.session.specs.declared.refusal.Cause.TheVariants as cause
+use Rattle.outcomes.specs.Refusals.{refusal}
+use Rattle.outcomes.specs.declared.refusal.Cause.TheVariants as cause
 use Rattle.session.proofs.PlaceLaws.{count_of_places, name_of_place, read_in}
 use Rattle.session.proofs.places.refused_at.Goals as goal
 
@@ -30,5 +30,5 @@ returns c =
       is = there;
       path = c.in_ok-path.path;
       path_is = c.in_ok-path.ensures ∙ ap path_of (c.as_str.ensures.value ∙ ap (λ (x : Text). x.name) (sym found.2));
-      is_told = c.refused.ensures ∙ ap (λ (s : Span). refusal cause.RefusedForm (Some s.start) c.in_ok-path.path) (ap (λ (x : CodeDef). (out-CodeDef x).name) (sym c.index-as_slice-place.is) ∙ sym named);
+      is_told = c.refused.ensures ∙ ap (λ (s : Span). refusal cause.RefusedForm (Some s.start) (Some c.in_ok-path.path)) (ap (λ (x : CodeDef). (out-CodeDef x).name) (sym c.index-as_slice-place.is) ∙ sym named);
     }

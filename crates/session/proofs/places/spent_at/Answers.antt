@@ -2,7 +2,7 @@ use Rattle.std.proofs.Common.{◌≡◌, length, map, slice_get, sym, ◌∙◌,
 use Rattle.codes.specs.declared.code.CodeDef.{CodeDef, out-CodeDef}
 use Rattle.layout_lexer.specs.declared.token.Span.{Span}
 use Rattle.module_texts.specs.Texts.{Text, path_of, text_of}
-use Rattle.session.specs.declared.outcome.Outcome.TheVariants as outcome
+use Rattle.outcomes.specs.declared.outcome.Outcome.TheVariants as outcome
 use Rattle.session.specs.Loaded.{texts_of}
 use Rattle.session.specs.Places.{places, span_of}
 use Rattle.session.proofs.PlaceLaws.{count_of_places, get_read, read_in}
@@ -28,5 +28,5 @@ returns c =
       code_is = get_read _ c.args.place d c.requires.within is;
       path = c.in_ok-path.path;
       path_is = c.in_ok-path.ensures ∙ ap path_of (c.as_str.ensures.value ∙ ap (λ (x : Text). x.name) (sym found.2));
-      is_told = ap (λ (s : Span). outcome.Spent c.args.turns s.start c.in_ok-path.path) (c.span_of-at.ensures ∙ ap (λ (x : CodeDef). span_of (out-CodeDef x).body) (sym c.index-as_slice-place.is));
+      is_told = ap (λ (s : Span). outcome.Spent c.args.turns s.start (Some c.in_ok-path.path)) (c.span_of-at.ensures ∙ ap (λ (x : CodeDef). span_of (out-CodeDef x).body) (sym c.index-as_slice-place.is));
     }

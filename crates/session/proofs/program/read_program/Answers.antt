@@ -44,6 +44,6 @@ returns-in_ok-of_scope-in-Err-link-clause-program g c =
         path_is = c.in_ok-path-in-Err-link.ensures ∙ ap path_of c.as_str.ensures.value;
         is_told = is;
       }),
-      scope_counted (see c.args.files.now) (see c.load.new.files) f path told
+      scope_counted (see c.args.files.now) (see c.load.new.files) f (Some path) told
           (subst (λ r. CountsAfter r (g.F.Files.counts c.args.files.now) (g.F.Files.counts c.load.new.files)) c.in-Ok.is c.load.ensures.counted) is,
     )

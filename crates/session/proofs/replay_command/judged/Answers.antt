@@ -2,7 +2,7 @@ use Rattle.std.proofs.Common.{sym, subst, Some, None}
 use Rattle.translation.specs.Translated.{judgements_of}
 use Rattle.resolver.specs.Resolved.{defs_in}
 use Rattle.replay.specs.Shown.{root_judgements}
-use Rattle.session.specs.declared.outcome.Outcome.TheVariants as outcome
+use Rattle.outcomes.specs.declared.outcome.Outcome.TheVariants as outcome
 use Rattle.session.specs.Answers.{IsFound}
 use Rattle.session.specs.Loaded.{codes_of, stated_by, wanted_by}
 use Rattle.session.specs.Modules.{Compares}

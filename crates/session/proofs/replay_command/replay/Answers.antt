@@ -5,7 +5,7 @@ use Rattle.host_io.specs.Counts.{counted_fetch}
 use Rattle.host_io.specs.Files.{HoldsAt}
 use Rattle.host_io.specs.declared.files.Fetched.TheVariants as fetched
 use Rattle.host_io.specs.Seen.{seen_files}
-use Rattle.session.specs.declared.outcome.Outcome.TheVariants as outcome
+use Rattle.outcomes.specs.declared.outcome.Outcome.TheVariants as outcome
 use Rattle.session.specs.Answers.{IsFound}
 use Rattle.session.specs.Loaded.{IsProgram}
 use Rattle.session.proofs.ReplayLaws.{Wants, all_found, may_replay, spelt, wanted_of, wanted_same}

@@ -2,9 +2,9 @@ use Rattle.std.proofs.Common.{◌≡◌, ◌∙◌, IsErr, ap, refl, subst, sym}
 use Rattle.host_io.specs.Seen.{seen_files, seen_sink}
 use Rattle.command_words.specs.Words.{command, texts}
 use Rattle.session.specs.Answers.{MayAnswer, MayStore, Printed, wants_json}
-use Rattle.session.specs.Json.{text_in}
-use Rattle.session.specs.Outcomes.{status_of}
-use Rattle.session.specs.declared.outcome.Status.TheVariants as status
+use Rattle.outcomes.specs.Json.{text_in}
+use Rattle.outcomes.specs.Outcomes.{status_of}
+use Rattle.outcomes.specs.declared.outcome.Status.TheVariants as status
 use Rattle.session.proofs.RunLemmas.{stores, stores_less}
 use Rattle.session.proofs.top.run.Goals as goal
 

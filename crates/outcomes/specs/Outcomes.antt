@@ -1,16 +1,12 @@
--- What outcomes are in print, and what is counted and stored.
-use Rattle.std.specs.Prelude.{◌≡◌, ℕ, List, ◌++◌, codes, decimal, string_bytes}
-use Rattle.host_io.specs.Counts.{FileCounts, counted_fetch, counted_store}
-use Rattle.host_io.specs.declared.files.Fetched.TheVariants as fetched
-use Rattle.host_io.specs.declared.files.Stored.TheVariants as stored
-use Rattle.host_io.specs.Seen.{SeenFiles}
+-- What outcomes are in print.
+use Rattle.std.specs.Prelude.{ℕ, List, ◌++◌, codes, decimal, string_bytes}
 use Rattle.replay.specs.declared.judging.Verdict.TheVariants.{Yes, No}
 use Rattle.evidence.specs.Lines.{lines_of}
-use Rattle.session.specs.declared.outcome.Status.{Status}
-use Rattle.session.specs.declared.outcome.Status.TheVariants as status
-use Rattle.session.specs.declared.outcome.Outcome.{Outcome}
-use Rattle.session.specs.declared.outcome.Outcome.TheVariants as outcome
-use Rattle.session.specs.Refusals.{refusal_text}
+use Rattle.outcomes.specs.declared.outcome.Status.{Status}
+use Rattle.outcomes.specs.declared.outcome.Status.TheVariants as status
+use Rattle.outcomes.specs.declared.outcome.Outcome.{Outcome}
+use Rattle.outcomes.specs.declared.outcome.Outcome.TheVariants as outcome
+use Rattle.outcomes.specs.Refusals.{in_path, refusal_text}
 
 -- the text of a module that was made, and how it was judged
 abbrev pub made_text : List ℕ → ℕ → ℕ → List ℕ
@@ -34,7 +30,7 @@ plain_text (outcome.Shown text) = string_bytes text
 plain_text (outcome.Made text definitions roots) = made_text (string_bytes text) definitions roots
 plain_text (outcome.Spent turns at path) =
     codes "spent: " ++ (decimal turns ++ (codes " at " ++ (decimal at
-    ++ (codes " in " ++ (string_bytes path ++ codes "\n")))))
+    ++ (in_path path ++ codes "\n"))))
 plain_text outcome.WriteFault = codes "fault: WriteFault\n"
 plain_text outcome.Usage =
     codes "usage: ctt check MODULE [--turns N] [--json] | replay FILE [--of MODULE] | normal MODULE NAME [--turns N] | prompt MODULE [--turns N] | make N\n"
@@ -54,22 +50,3 @@ status_of (outcome.Made text definitions roots) = status.Yes
 status_of (outcome.Spent turns at path) = status.Spent
 status_of outcome.WriteFault = status.Fault
 status_of outcome.Usage = status.Usage
-
--- the counts of files after a command that ended so: what goes wrong once is told, and ends it
-abbrev pub counts_after : Outcome → FileCounts → FileCounts
-counts_after (outcome.MissingFile path) counts = counted_fetch fetched.Missing counts
-counts_after outcome.ReadFault counts = counted_fetch fetched.Failed counts
-counts_after outcome.WriteFault counts = counted_store stored.Failed counts
-counts_after result counts = counts
-
--- an outcome of which no count tells
-abbrev pub IsUncounted : Outcome → Type 0
-IsUncounted told = (counts : FileCounts) → counts_after told counts ≡ counts
-
-abbrev pub IsCounted : SeenFiles → SeenFiles → Outcome → Type 0
-IsCounted old new told = new.counts ≡ counts_after told old.counts
-
--- each path holds what it did, and no store was tried that failed
-abbrev pub StoresNothing : SeenFiles → SeenFiles → Type 0
-StoresNothing old new =
-    (new.held ≡ old.held) × (new.counts.store_faults ≡ old.counts.store_faults)

@@ -1,19 +1,19 @@
 //! Why a module is refused.
 
 ghost use Rattle.std.specs.Prelude.{◌≡◌, IfOk, Some, string_bytes};
-ghost use Rattle.session.specs.Refusals.{cause_name, refusal, told_lex, told_load, told_read};
-ghost use Rattle.session.specs.Refusals.{refusal_text, told_scope};
+ghost use Rattle.outcomes.specs.Refusals.{cause_name, in_path, refusal, refusal_text};
+ghost use Rattle.outcomes.specs.Refusals.{told_lex, told_load, told_read, told_scope};
 
 use crate::outcome::Outcome;
 use grammar::ReadFault;
 use layout_lexer::LexFault;
 use loading::LoadFault;
-use resolver::ScopeFault;
 use std::alloc::{AllocError, Global};
+use translation::ScopeFault;
 
 /// Why a module is refused.
 #[derive(Clone, Copy, Debug, PartialEq, Eq)]
-pub(crate) enum Cause {
+pub enum Cause {
     /// No character of UTF-8 begins at the place.
     NotUtf8,
     /// No token begins at the place.
@@ -66,7 +66,7 @@ pub(crate) enum Cause {
 
 impl Cause {
     /// What it is called in print.
-    pub(crate) fn name(self) -> &'static str
+    pub fn name(self) -> &'static str
         ensures { result.now ≡ cause_name self }
     {
         match self {
@@ -97,38 +97,49 @@ impl Cause {
     }
 }
 
-/// A module that is refused: the cause, where it stands in the file, and the path of the file.
+/// Where a file is meant, as a text says it; of a line of the prompt nothing is said.
+pub(crate) fn in_path(alloc: Global, path: &Option<String>) -> Result<String, AllocError>
+    ensures { IfOk result (λ shown. string_bytes shown ≡ in_path path.now) }
+{
+    match path {
+        Some(path) => format!(in alloc; " in {path}"),
+        None => Ok(String::new(alloc)),
+    }
+}
+
+/// A text that is refused: the cause, and where it stands.
 #[derive(Drop)]
-pub(crate) struct Refusal {
-    pub(crate) cause: Cause,
-    /// In bytes; none for what concerns the whole file.
-    pub(crate) at: Option<u32>,
-    pub(crate) path: String,
+pub struct Refusal {
+    pub cause: Cause,
+    /// In bytes; none for what concerns the whole text.
+    pub at: Option<u32>,
+    /// The file; none for a line of the prompt.
+    pub path: Option<String>,
 }
 
 impl Refusal {
     /// The text in plain words, with its newline. The only error is out of memory.
-    pub(crate) fn text(&self, alloc: Global) -> Result<String, AllocError>
+    pub fn text(&self, alloc: Global) -> Result<String, AllocError>
         ensures { IfOk result (λ shown. string_bytes shown ≡ refusal_text self.now) }
     {
         let cause = self.cause.name();
-        let path = self.path.as_str();
+        let place = in_path(alloc, &self.path)?;
         match self.at {
-            Some(at) => format!(in alloc; "no: {cause} at {at} in {path}\n"),
-            None => format!(in alloc; "no: {cause} in {path}\n"),
+            Some(at) => format!(in alloc; "no: {cause} at {at}{place}\n"),
+            None => format!(in alloc; "no: {cause}{place}\n"),
         }
     }
 }
 
-/// The text at the path is refused.
-pub(crate) fn refused(cause: Cause, at: Option<u32>, path: String) -> Outcome
+/// The text at the path is refused, or the line of the prompt.
+pub fn refused(cause: Cause, at: Option<u32>, path: Option<String>) -> Outcome
     ensures { result ≡ refusal cause at path }
 {
     Outcome::Refused(Refusal { cause, at, path })
 }
 
-/// The text at the path has no tokens.
-fn of_lex(fault: LexFault, path: String) -> Result<Outcome, AllocError>
+/// The text at the path has no tokens. The only error is out of memory.
+pub fn of_lex(fault: LexFault, path: Option<String>) -> Result<Outcome, AllocError>
     ensures { IfOk result (λ o. told_lex fault path ≡ Some o) }
 {
     match fault {
@@ -140,8 +151,8 @@ fn of_lex(fault: LexFault, path: String) -> Result<Outcome, AllocError>
     }
 }
 
-/// The text at the path is read as no module.
-fn of_read(fault: ReadFault, path: String) -> Result<Outcome, AllocError>
+/// The text at the path is not read. The only error is out of memory.
+pub fn of_read(fault: ReadFault, path: Option<String>) -> Result<Outcome, AllocError>
     ensures { IfOk result (λ o. told_read fault path ≡ Some o) }
 {
     match fault {
@@ -152,23 +163,23 @@ fn of_read(fault: ReadFault, path: String) -> Result<Outcome, AllocError>
     }
 }
 
-/// A module is not loaded.
-pub(crate) fn of_load(fault: LoadFault) -> Result<Outcome, AllocError>
+/// A module is not loaded. The only error is out of memory.
+pub fn of_load(fault: LoadFault) -> Result<Outcome, AllocError>
     ensures { IfOk result (λ o. told_load fault ≡ Some o) }
 {
     match fault {
         LoadFault::Missing(path) => Ok(Outcome::MissingFile(path)),
         LoadFault::Unreadable => Ok(Outcome::ReadFault),
-        LoadFault::NoTokens(fault, path) => of_lex(fault, path),
-        LoadFault::NoModule(fault, path) => of_read(fault, path),
-        LoadFault::Cycle(path) => Ok(refused(Cause::ImportCycle, None, path)),
-        LoadFault::TooMany(path) => Ok(refused(Cause::TooMany, None, path)),
+        LoadFault::NoTokens(fault, path) => of_lex(fault, Some(path)),
+        LoadFault::NoModule(fault, path) => of_read(fault, Some(path)),
+        LoadFault::Cycle(path) => Ok(refused(Cause::ImportCycle, None, Some(path))),
+        LoadFault::TooMany(path) => Ok(refused(Cause::TooMany, None, Some(path))),
         LoadFault::Memory => Err(AllocError),
     }
 }
 
-/// The module at the path is not resolved.
-pub(crate) fn of_scope(fault: ScopeFault, path: String) -> Result<Outcome, AllocError>
+/// The text at the path is not resolved. The only error is out of memory.
+pub fn of_scope(fault: ScopeFault, path: Option<String>) -> Result<Outcome, AllocError>
     ensures { IfOk result (λ o. told_scope fault path ≡ Some o) }
 {
     match fault {

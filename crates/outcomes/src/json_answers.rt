@@ -3,9 +3,9 @@
 ghost use Rattle.std.specs.Prelude.{◌≡◌, IfOk, IsOk};
 ghost use Rattle.std.specs.Cow.{cow_str_bytes};
 ghost use Rattle.answer_json.specs.Members.{all_of, given, word_of as answer_word};
-ghost use Rattle.session.specs.Json.{json_text, members_of, no_texts, refusal_members};
-ghost use Rattle.session.specs.Json.{text_in, texts_of, texts_read, word_of};
-ghost use Rattle.session.specs.Outcomes.{status_of};
+ghost use Rattle.outcomes.specs.Json.{json_text, members_of, no_texts, refusal_members};
+ghost use Rattle.outcomes.specs.Json.{text_in, texts_of, texts_read, word_of};
+ghost use Rattle.outcomes.specs.Outcomes.{status_of};
 
 use crate::outcome::{Outcome, Status};
 use crate::refusal::Refusal;
@@ -96,7 +96,7 @@ fn refusal_members<'a>(refusal: &'a Refusal, texts: ShownTexts<'a>) -> AnswerMem
         definitions: None,
         face: texts.face,
         found: texts.found,
-        path: Some(refusal.path.as_str()),
+        path: refusal.path.as_deref(),
         turns: None,
         type_text: texts.type_text,
         wanted: texts.wanted,
@@ -130,7 +130,7 @@ impl Outcome {
             },
             Outcome::Spent { turns, at, path } => AnswerMembers {
                 at: Some(u64::from(*at)),
-                path: Some(path.as_str()),
+                path: path.as_deref(),
                 turns: Some(*turns),
                 ..AnswerMembers::new(Answer::Spent)
             },
@@ -154,11 +154,7 @@ impl Outcome {
 
     /// The text, in JSON if that is asked. The only error is out of memory, and a fault of writing
     /// is told for certain.
-    pub(crate) fn text_in(
-        &self,
-        alloc: Global,
-        json: bool,
-    ) -> Result<CowStr<'static, Global>, AllocError>
+    pub fn text_in(&self, alloc: Global, json: bool) -> Result<CowStr<'static, Global>, AllocError>
         ensures text { IfOk result (λ shown. cow_str_bytes shown ≡ text_in json self.now) }
         ensures fault { self.now ≡ Outcome.WriteFault → IsOk result }
     {

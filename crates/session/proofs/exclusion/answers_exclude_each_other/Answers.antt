@@ -1,7 +1,7 @@
 use Rattle.session.proofs.ExclusionLemmas.{one_verdict}
 use Rattle.session.proofs.AnswerLaws.{one_answer}
 use Rattle.session.proofs.OneCheckLaws.{one_check}
-use Rattle.session.proofs.outcome.answers_exclude_each_other.Goals as goal
+use Rattle.session.proofs.exclusion.answers_exclude_each_other.Goals as goal
 
 pub returns-clause-verdict : goal.returns-clause-verdict
 returns-clause-verdict c = one_verdict

@@ -1,19 +1,21 @@
 -- What answers are in JSON.
 use Rattle.std.specs.Prelude.{ℕ, Bool, true, false, List, [], ◌∷◌, ◌++◌, codes, Option, None, Some}
-use Rattle.std.specs.Prelude.{string_bytes}
+use Rattle.std.specs.Prelude.{String, string_bytes}
+use Rattle.std.specs.declared.alloc.Global.{Global}
+use denote.Ref.{Bor}
 use Rattle.serde_json.specs.Data.{Members, member, no_members, number, object, string, unsigned}
 use Rattle.serde_json.specs.Written.{compact_text}
-use Rattle.command_words.specs.Read.{value}
+use Rattle.std.specs.Option.{option_map}
 use Rattle.evidence.specs.declared.texts.Shown.{Shown}
 use Rattle.evidence.specs.declared.texts.Shown.TheVariants as shown
-use Rattle.session.specs.declared.outcome.Outcome.{Outcome}
-use Rattle.session.specs.declared.outcome.Outcome.TheVariants as outcome
-use Rattle.session.specs.declared.outcome.Status.{Status}
-use Rattle.session.specs.declared.outcome.Status.TheVariants as status
-use Rattle.session.specs.declared.refusal.Refusal.{Refusal}
-use Rattle.session.specs.declared.json_answers.ShownTexts.{ShownTexts}
-use Rattle.session.specs.Outcomes.{plain_text, status_of}
-use Rattle.session.specs.Refusals.{cause_name}
+use Rattle.outcomes.specs.declared.outcome.Outcome.{Outcome}
+use Rattle.outcomes.specs.declared.outcome.Outcome.TheVariants as outcome
+use Rattle.outcomes.specs.declared.outcome.Status.{Status}
+use Rattle.outcomes.specs.declared.outcome.Status.TheVariants as status
+use Rattle.outcomes.specs.declared.refusal.Refusal.{Refusal}
+use Rattle.outcomes.specs.declared.json_answers.ShownTexts.{ShownTexts}
+use Rattle.outcomes.specs.Outcomes.{plain_text, status_of}
+use Rattle.outcomes.specs.Refusals.{cause_name}
 
 -- a member, and those after it by their names
 abbrev pub text_member : List ℕ → List ℕ → Members → Members
@@ -33,6 +35,10 @@ at_member (Some at) rest = number_member (codes "at") at rest
 abbrev pub optional : List ℕ → Option (List ℕ) → Members → Members
 optional name None rest = rest
 optional name (Some text) rest = text_member name text rest
+
+-- the path of a file, where one is meant
+abbrev pub path_text : Option (String Global) → Option (List ℕ)
+path_text = option_map string_bytes
 
 -- the texts that a refusal shows
 pub record Texts : Type 0 where
@@ -59,10 +65,13 @@ abbrev pub refusal_members : Refusal → Texts → Members
 refusal_members r texts =
     answer (codes "no") (at_member r.at (text_member (codes "cause") (cause_name r.cause)
     (optional (codes "face") texts.face (optional (codes "found") texts.found
-    (text_member (codes "path") (string_bytes r.path)
+    (optional (codes "path") (path_text r.path)
     (optional (codes "type") texts.type (optional (codes "wanted") texts.wanted no_members)))))))
 
 -- what the code's texts are
+abbrev pub value : Option (Bor (List ℕ)) → Option (List ℕ)
+value = option_map (λ text. text.now)
+
 abbrev pub texts_read : ShownTexts → Texts
 texts_read t = record {
   face = value t.face;
@@ -92,7 +101,7 @@ members_of (outcome.Checked count) =
     answer (codes "yes") (number_member (codes "definitions") count no_members)
 members_of (outcome.Spent turns at path) =
     answer (codes "spent") (number_member (codes "at") at
-    (text_member (codes "path") (string_bytes path)
+    (optional (codes "path") (path_text path)
     (number_member (codes "turns") turns no_members)))
 -- the other answers are of no check
 members_of told = answer (word_of (status_of told)) no_members

@@ -2,10 +2,9 @@
 
 ghost use Rattle.std.specs.Prelude.{◌≡◌, IfOk, IsOk, string_bytes};
 ghost use Rattle.std.specs.Cow.{cow_str_bytes};
-ghost use Rattle.session.specs.Answers.{OneVerdict, OneAnswer, OneCheck};
-ghost use Rattle.session.specs.Outcomes.{made_text, plain_text, status_of};
+ghost use Rattle.outcomes.specs.Outcomes.{made_text, plain_text, status_of};
 
-use crate::refusal::Refusal;
+use crate::refusal::{Refusal, in_path};
 use evidence::Shown;
 use replay::Verdict;
 use std::alloc::{AllocError, Global};
@@ -30,7 +29,7 @@ pub enum Status {
 
 /// How a command ended. Out of memory is none of these.
 #[derive(Drop)]
-pub(crate) enum Outcome {
+pub enum Outcome {
     /// What was found of the rows of a derivation file.
     Judged(Verdict),
     /// All rows are right, and this root is the first that is not the module's.
@@ -55,11 +54,11 @@ pub(crate) enum Outcome {
         roots: u64,
     },
     /// A question reached its budget, in moves, which was asked of the form at this byte of the
-    /// file at the path.
+    /// file at the path, or of the line of the prompt.
     Spent {
         turns: u64,
         at: u32,
-        path: String,
+        path: Option<String>,
     },
     /// A file could not be stored.
     WriteFault,
@@ -80,7 +79,7 @@ fn made_text(alloc: Global, text: &str, definitions: u64, roots: u64) -> Result<
 
 impl Outcome {
     /// The status once the text is printed.
-    pub(crate) fn status(&self) -> Status
+    pub fn status(&self) -> Status
         ensures { result ≡ status_of self.now }
     {
         match self {
@@ -110,7 +109,7 @@ impl Outcome {
 
     /// The text in plain words, with its newline. The only error is out of memory. A text that is
     /// always the same takes none, so that a fault of writing is told for certain.
-    pub(crate) fn text(&self, alloc: Global) -> Result<CowStr<'static, Global>, AllocError>
+    pub fn text(&self, alloc: Global) -> Result<CowStr<'static, Global>, AllocError>
         ensures text { IfOk result (λ shown. cow_str_bytes shown ≡ plain_text self.now) }
         ensures fault { self.now ≡ Outcome.WriteFault → IsOk result }
     {
@@ -139,18 +138,10 @@ impl Outcome {
                 roots,
             } => made_text(alloc, text.as_str(), *definitions, *roots)?,
             Outcome::Spent { turns, at, path } => {
-                format!(in alloc; "spent: {turns} at {at} in {path}\n")?
+                let place = in_path(alloc, path)?;
+                format!(in alloc; "spent: {turns} at {at}{place}\n")?
             }
         };
         Ok(CowStr::Owned(made))
     }
 }
-
-/// A law on the answers, and no code: of one file there is one verdict, and where it is told what
-/// is held, a replay of a path, and of a module if one is named, has one answer, but for a fault of
-/// reading and out of memory; so has a check, but for faults of reading and of writing.
-pub fn answers_exclude_each_other()
-    ensures verdict { OneVerdict }
-    ensures answer { OneAnswer }
-    ensures check { OneCheck }
-{}

@@ -1,8 +1,8 @@
 use Rattle.std.proofs.Common.{◌≡◌, ◌∙◌, ap, codes, refl, sym}
 use Rattle.json.specs.Print.{escape_byte}
-use Rattle.session.specs.Json.{json_text}
-use Rattle.session.specs.declared.outcome.Outcome.TheVariants as outcome
-use Rattle.session.proofs.outcome.Outcome.json.Goals as goal
+use Rattle.outcomes.specs.Json.{json_text}
+use Rattle.outcomes.specs.declared.outcome.Outcome.TheVariants as outcome
+use Rattle.outcomes.proofs.outcome.Outcome.json.Goals as goal
 
 pub returns-in-WriteFault-clause-text : goal.returns-in-WriteFault-clause-text
 unfolding escape_byte
