@@ -1,3 +1,4 @@
+pub mod After
 pub mod Forms
 pub mod Places
 pub mod Steps

@@ -1,20 +1,21 @@
 //! Definitions, and the judgements that they state.
 
 ghost use Rattle.std.specs.Prelude.{◌≡◌, ℕ, [], map, take, Some, IfOk, OnOk};
-ghost use Rattle.trees.specs.Things.{Kept};
+ghost use Rattle.trees.specs.Things.{ATree, Kept};
 ghost use Rattle.trees.specs.Claimed.{claimed};
 ghost use Rattle.translation.specs.Scopes.{Scope};
 ghost use Rattle.translation.specs.Translated.{judgements_of};
 ghost use Rattle.codes.specs.Codes.{body_of, definitions};
 ghost use Rattle.rows.specs.Views.{IsTree};
 ghost use Rattle.form_rows.specs.Meant.{AreTrees, Is};
+ghost use Rattle.judgement_rows.specs.After.{After, term_after};
 ghost use Rattle.judgement_rows.specs.Steps.{Closed, Fits, FitsSome, state};
 ghost use Rattle.judgement_rows.specs.Words.{Defines, block_scope, def_scope};
 
 use crate::bodies::{Bodies, Body};
 use crate::places::Place;
 use crate::terms::Spelling;
-use codes::CodeDef;
+use codes::{Code, CodeDef};
 use form_rows::{lifted, nested};
 use numbered_scope::Numbered;
 use rows::Maker;
@@ -122,6 +123,26 @@ impl Spelling {
     }
 }
 
+/// Definitions from the start: what is known after them, and the place there.
+fn spelt<M: Maker>(
+    alloc: Global,
+    maker: &mut M,
+    defs: &[CodeDef],
+) -> Result<(Spelling, Place), AllocError>
+    ensures kept { Kept (M.means maker.old) (M.means maker.new) }
+    ensures after { IfOk result (λ r. After (state (M.means maker.new) r.0) r.1 defs.now) }
+{
+    let context = maker.ctx_nil()?;
+    let place = Place { context, depth: 0 };
+    let mut spelling = Spelling {
+        alloc,
+        bodies: Bodies::new(alloc),
+        claims: Vec::new(alloc),
+    };
+    spelling.block(maker, place, defs)?;
+    Ok((spelling, place))
+}
+
 /// The claims of the judgements of definitions, in order: for each its type and then its body,
 /// those of local ones before those of what holds them.
 pub fn claims_of<M: Maker>(
@@ -133,12 +154,22 @@ pub fn claims_of<M: Maker>(
     ensures claims { IfOk result (λ cs. map (claimed (M.means maker.new)) cs.items
         ≡ map Some (judgements_of (definitions defs.now []).stated)) }
 {
-    let context = maker.ctx_nil()?;
-    let mut spelling = Spelling {
-        alloc,
-        bodies: Bodies::new(alloc),
-        claims: Vec::new(alloc),
-    };
-    spelling.block(maker, Place { context, depth: 0 }, defs)?;
+    let (spelling, _place) = spelt(alloc, maker, defs)?;
     Ok(spelling.claims)
+}
+
+/// The row of the tree of a code in the scope of definitions, where each definition is replaced by
+/// its body.
+pub fn term_of<M: Maker>(
+    alloc: Global,
+    maker: &mut M,
+    defs: &[CodeDef],
+    code: &Code,
+) -> Result<u64, AllocError>
+    ensures kept { Kept (M.means maker.old) (M.means maker.new) }
+    ensures term { IfOk result (λ row.
+        M.means maker.new row ≡ Some (ATree (term_after defs.now code.now))) }
+{
+    let (mut spelling, place) = spelt(alloc, maker, defs)?;
+    spelling.code(maker, place, code)
 }

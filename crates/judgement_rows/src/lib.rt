@@ -1,4 +1,5 @@
-//! The judgements that resolved definitions spell, as rows of any maker.
+//! The judgements that resolved definitions spell, and what a code spells in their scope, as rows of
+//! any maker.
 //!
 //! ```text
 //! id (A : U) (x : A) : A = x
@@ -23,4 +24,4 @@ mod sides;
 mod systems;
 mod terms;
 
-pub use definitions::claims_of;
+pub use definitions::{claims_of, term_of};

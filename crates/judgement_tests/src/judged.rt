@@ -1,10 +1,10 @@
 //! Texts, with the judgements that they spell.
 
-use crate::shown::claims_shown;
+use crate::shown::{claims_shown, tree_shown};
 use grammar::read;
-use judgement_rows::claims_of;
+use judgement_rows::{claims_of, term_of};
 use layout_lexer::tokens;
-use resolver::{Scope, ScopeNames, resolve};
+use resolver::{Codes, Scope, ScopeNames, resolve};
 use rows::RowStore;
 use std::alloc::{AllocError, Global};
 use std::process::Abort;
@@ -13,26 +13,65 @@ use std::test::Fail;
 /// The definitions of a module, and their judgements, one a line.
 type Row = (&'static str, &'static str);
 
-fn judged(alloc: Global, defs: &str) -> Result<String, AllocError> {
+/// The codes of definitions, or why there are none.
+fn codes_of(alloc: Global, defs: &str) -> Result<Result<Codes, &'static str>, AllocError> {
     let text = format!(in alloc; "module M where\n{defs}\n")?;
     let bytes = text.as_bytes();
     let Ok(tokens) = tokens(alloc, bytes) else {
-        return String::from_str(alloc, "no tokens");
+        return Ok(Err("no tokens"));
     };
     let Ok(module) = read(alloc, bytes, &tokens) else {
-        return String::from_str(alloc, "not read");
+        return Ok(Err("not read"));
     };
     let scope = Scope {
         names: ScopeNames::new(alloc),
         next: 0,
     };
     let Ok(codes) = resolve(alloc, bytes, &module, &scope) else {
-        return String::from_str(alloc, "not resolved");
+        return Ok(Err("not resolved"));
+    };
+    Ok(Ok(codes))
+}
+
+fn judged(alloc: Global, defs: &str) -> Result<String, AllocError> {
+    let codes = match codes_of(alloc, defs)? {
+        Ok(codes) => codes,
+        Err(why) => return String::from_str(alloc, why),
     };
     let mut rows = RowStore::new(alloc);
     let claims = claims_of(alloc, &mut rows, codes.as_slice())?;
     claims_shown(alloc, &rows, &claims)
 }
+
+/// What the body of the last definition spells after the others.
+fn spelt(alloc: Global, defs: &str) -> Result<String, AllocError> {
+    let codes = match codes_of(alloc, defs)? {
+        Ok(codes) => codes,
+        Err(why) => return String::from_str(alloc, why),
+    };
+    let [before @ .., last] = codes.as_slice() else {
+        return String::from_str(alloc, "no definition");
+    };
+    let mut rows = RowStore::new(alloc);
+    let row = term_of(alloc, &mut rows, before, &last.body)?;
+    tree_shown(alloc, &rows, row)
+}
+
+const TERMS: [Row; 3] = [
+    (
+        "id (A : U) (x : A) : A = x\nt : nat = id nat zero",
+        "(app (app (lam U (lam #0 #0)) nat) zero)",
+    ),
+    (
+        "N : U = nat\nM : U = U\nt : U = (x : N) -> N",
+        "(pi nat nat[1])",
+    ),
+    // a definition of its own
+    (
+        "N : U = nat\nt : U = let M : U = N in (x : M) -> U",
+        "(pi nat U)",
+    ),
+];
 
 const ROWS: [Row; 20] = [
     // binders: the second type stands under the first variable
@@ -165,6 +204,15 @@ fn are_judged(rt: &impl Abort, alloc: Global, rows: &[Row]) -> Result<(), Fail> 
     for (text, wanted) in rows {
         let found = judged(alloc, text)?;
         assert_eq!(rt; found.as_str(), *wanted, "of {text:?}");
+    }
+    Ok(())
+}
+
+#[test]
+fn bodies_are_spelt_after_definitions(rt: HostRuntime) -> Result<(), Fail> {
+    for (text, wanted) in &TERMS {
+        let found = spelt(rt.alloc(), text)?;
+        assert_eq!(&rt; found.as_str(), *wanted, "of {text:?}");
     }
     Ok(())
 }

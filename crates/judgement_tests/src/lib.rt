@@ -1,4 +1,4 @@
-//! Tests of `judgement_rows`: texts with the judgements that they spell.
+//! Tests of `judgement_rows`: texts with the judgements and the terms that they spell.
 //!
 //! They stand in a crate of their own, since a crate with tests is proved twice.
 #![tactic(auto)]

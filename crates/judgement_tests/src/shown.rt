@@ -104,6 +104,16 @@ impl<'a> Shown<'a> {
     }
 }
 
+/// The tree of a row.
+pub fn tree_shown(alloc: Global, rows: &RowStore, row: u64) -> Result<String, AllocError> {
+    let mut shown = Shown {
+        rows,
+        text: String::new(alloc),
+    };
+    shown.term(TermId(row), DEPTH)?;
+    Ok(shown.text)
+}
+
 /// The claims, one a line.
 pub fn claims_shown(
     alloc: Global,
