@@ -27,17 +27,19 @@ pub record Equates (f : Meanings) (ctx left right ty : ℕ) (J : Judgement) : Ty
   pub ty_is : f ty ≡ Some (ATree A)
   pub is : J ≡ TmEq G t n A
 
+-- a claim says a judgement of its form
+pub form_said : (f : Meanings) (c : Claim) (J : Judgement) → claimed f c ≡ Some J → form_of J ≡ form_of_claim c
+form_said f c J says =
+    let s = said_of f c (some-is (claimed f c) J says) in
+    let both : Some s.judgement ≡ Some J = sym s.says ∙ says in
+    let same : s.judgement ≡ J = cc in
+    subst (λ x. form_of x ≡ form_of_claim c) same s.is.form
+
 pub equates : (b : Contents) (ctx left right ty : ℕ) (J : Judgement) → claimed (book_means b) (claim.TmEq ctx left right ty) ≡ Some J → Equates (book_means b) ctx left right ty J
-equates b ctx left right ty J says = from J (form_is (said_of (book_means b) c (some-is (claimed (book_means b) c) J says)).judgement (said_of (book_means b) c (some-is (claimed (book_means b) c) J says)).says (said_of (book_means b) c (some-is (claimed (book_means b) c) J says)).is.form) says
+equates b ctx left right ty J says = from J (form_said (book_means b) c J says) says
   where
     c : Claim
     c = claim.TmEq ctx left right ty
-
-    form_is : (K : Judgement) → claimed (book_means b) c ≡ Some K → form_of K ≡ form_of_claim c → form_of J ≡ form.TmEq
-    form_is K e h =
-        let both : Some K ≡ Some J = sym e ∙ says in
-        let same : K ≡ J = cc in
-        subst (λ x. form_of x ≡ form.TmEq) same h
 
     from : (K : Judgement) → form_of K ≡ form.TmEq → claimed (book_means b) c ≡ Some K → Equates (book_means b) ctx left right ty K
     from (TmEq G t n A) h e = record {
@@ -57,7 +59,7 @@ equates b ctx left right ty J says = from J (form_is (said_of (book_means b) c (
 pub types_left : (f : Meanings) (ctx left right ty : ℕ) (J : Judgement) → (e : Equates f ctx left right ty J) → claimed f (claim.Tm ctx left ty) ≡ Some (Tm e.G e.t e.A)
 types_left f ctx left right ty J e = rw e.ctx_is (rw e.left_is (rw e.ty_is refl))
 
-some_of : {A : Type 0} (o : Option A) → IsSome o → (x : A) × (o ≡ Some x)
+pub some_of : {A : Type 0} (o : Option A) → IsSome o → (x : A) × (o ≡ Some x)
 some_of None some = cc
 some_of (Some x) some = (x, refl)
 
