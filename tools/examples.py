@@ -85,7 +85,9 @@ def blocks(text):
 def examples():
     """The modules of the examples, as steps. `check` wrote their derivations, but for `two.drv`; long
     ones are not stored."""
-    for path in sorted([*EXAMPLES.glob("*.ctt"), *EXAMPLES.glob("evaluation/*.ctt")]):
+    paths = [path for glob in ("*.ctt", "evaluation/*.ctt", "prompt/*.ctt")
+             for path in EXAMPLES.glob(glob)]
+    for path in sorted(paths):
         module, folder = path.stem, path.parent.relative_to(ROOT)
         file = "two.drv" if module == "Two" else f"{module}.drv"
         if not (path.parent / file).exists():

@@ -1,6 +1,6 @@
 #!/usr/bin/env python3
 """Runs the tables of `tests`, the cases of `try_program.py` and, on what the gate has built, the
-library of examples, and ends with one line that counts them all.
+sessions of prompts and the library of examples, and ends with one line that counts them all.
 
     tools/run_cases.py             on builds without proofs, by `rt try`: some minutes
     tools/run_cases.py --after     on the programs that the gate has built, as `.ci/run` does, which
@@ -15,6 +15,7 @@ import re
 import subprocess
 import sys
 
+import prompt_session
 import try_edits
 import try_program
 import try_tables
@@ -49,7 +50,8 @@ def proved():
     if status:
         return status, [count]
     tables = map(try_tables.proved, try_tables.TABLES)
-    return 0, [count, *tables, try_program.proved(), library()]
+    sessions = [try_program.prompts(), prompt_session.sessions(try_program.PROGRAM)]
+    return 0, [count, *tables, try_program.proved(), *sessions, library()]
 
 
 def unproved():

@@ -33,14 +33,16 @@ LAWS = [("session/src/exclusion.rt", "answers_exclude_each_other"),
         ("text_laws/src/lib.rt", "texts_determine_directness")]
 
 # The parts of the contract, each with the names of definitions that only later parts need.
-OF_NORMAL = {"NormalJob", "normal_of"}
+OF_PROMPT = {"PromptJob", "RanLines", "prompt_of"}
+OF_NORMAL = {"NormalJob", "normal_of"} | OF_PROMPT
 OF_CHECK = {"MayDo", "MayLeave", "CheckJob", "check_of", "turns_of"} | OF_NORMAL
 OF_MODULES = {"MayReplayOf", "is_only", "tokens_of", "refusal_text"}
 PARTS = {
     "`replay FILE`": OF_MODULES | OF_CHECK,
     "`replay FILE --of MODULE`": OF_CHECK,
     "`check MODULE`": OF_NORMAL,
-    "`normal MODULE NAME`": set(),
+    "`normal MODULE NAME`": OF_PROMPT,
+    "`prompt MODULE`": set(),
 }
 
 # A piece of a file: some lines, with the names that are defined there.

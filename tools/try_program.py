@@ -6,7 +6,8 @@
 The runs that the gate makes of the program have no words, so this looks at how it reads them and
 the disk. Each case is a file, the words with `{}` for its path, a line and a status. PROGRAM is
 that which the gate has built, where none is given; on it the cases of each rule run too
-(`rule_cases.py`). A build without proofs, by `rt try`, runs one in ten of these.
+(`rule_cases.py`). A build without proofs, by `rt try`, runs one in ten of these. Prompts run on that
+which the gate has built alone, since they answer while they are asked.
 """
 import concurrent.futures
 import os
@@ -15,6 +16,7 @@ import shutil
 import subprocess
 import sys
 import tempfile
+import threading
 
 import rule_cases
 
@@ -56,7 +58,21 @@ CASES = {
         0,
     ),
     "makes_none": ("", ["make", "0"], USAGE, 2),
+    "prompt_without_input": ("", ["prompt", "First"], "", 0),
+    "prompt_of_none": ("", ["prompt", "data"], "no: MissingFile in data.ctt\n", 1),
 }
+
+# Lines of a prompt of the example `First`, each with its answer.
+ASKED = [
+    ("two", "(suc (suc zero))\n"),
+    ("three", "no: Unbound at 0\n"),
+    (":n successor two", "(suc (suc (suc zero)))\n"),
+    ("suc nat", "no: Mismatch at 4\nfound: U\nwanted: nat\n"),
+    ("", ""),
+    (":x", "no: Unexpected at 0\n"),
+    ("successor", "(\\(x0 : nat) -> (suc x0))\n"),
+]
+LIMIT_OF_INPUT = 1 << 24  # bytes that a prompt takes
 
 
 def examples():
@@ -89,6 +105,96 @@ def ended(program, case):
         except (OSError, subprocess.TimeoutExpired) as error:
             return str(error), None
     return ran.stdout.decode(errors="replace"), ran.returncode
+
+
+def prompting(program):
+    """A prompt of the example `First` that runs, with pipes for its input and its output."""
+    return subprocess.Popen([program, "prompt", "First"], cwd=EXAMPLES, stdin=subprocess.PIPE,
+                            stdout=subprocess.PIPE, stderr=subprocess.STDOUT)
+
+
+def prompted(program, given):
+    """What a prompt prints for an input, and the status that it ends with."""
+    with prompting(program) as started:
+        try:
+            text, _ = started.communicate(given, timeout=LIMIT)
+        except subprocess.TimeoutExpired as error:
+            started.kill()
+            return str(error), None
+    return text.decode(errors="replace"), started.returncode
+
+
+def by_bytes(program):
+    """A pipe that gives one byte at a time."""
+    given = "".join(f"{line}\n" for line, _ in ASKED).encode() + b":q\n"
+    with prompting(program) as started:
+        for byte in given:
+            started.stdin.write(bytes([byte]))
+            started.stdin.flush()
+        text, _ = started.communicate(timeout=LIMIT)
+    wanted = "".join(answer for _, answer in ASKED)
+    return (text.decode(errors="replace"), started.returncode), (wanted, 0)
+
+
+def in_turn(program):
+    """Each answer is read before the next line is written. One that does not come is not waited
+    for: the prompt is ended then, so that the read is too."""
+    found = []
+    with prompting(program) as started:
+        watch = threading.Timer(LIMIT, started.kill)
+        watch.start()
+        for line, answer in ASKED:
+            started.stdin.write(f"{line}\n".encode())
+            started.stdin.flush()
+            found += [started.stdout.readline().decode() for _ in range(answer.count("\n"))]
+        rest, _ = started.communicate(b":q\ntwo\n")
+        watch.cancel()
+    wanted = "".join(answer for _, answer in ASKED)
+    return ("".join(found) + rest.decode(errors="replace"), started.returncode), (wanted, 0)
+
+
+def many_refused(program):
+    """1,000 lines, of which each other one is refused."""
+    pairs = [ASKED[0], ASKED[3]] * 500
+    given = "".join(f"{line}\n" for line, _ in pairs).encode()
+    return prompted(program, given), ("".join(answer for _, answer in pairs), 0)
+
+
+def as_long_as_may_be(program):
+    """An input of the most bytes, of which the last line has no newline."""
+    given = b"two\n".ljust(LIMIT_OF_INPUT - 3, b"\n") + b"two"
+    return prompted(program, given), (ASKED[0][1] * 2, 0)
+
+
+def too_long(program):
+    """An input of one byte more: what ends within the most bytes is answered."""
+    given = b"two\n".ljust(LIMIT_OF_INPUT - 3, b"\n") + b"two\n"
+    return prompted(program, given), (ASKED[0][1] + "no: TooLong\n", 1)
+
+
+def ended_in_time(program):
+    """An input that is too long, but ends by `:q` before."""
+    given = b"two\n:q\n".ljust(LIMIT_OF_INPUT + 1, b"\n")
+    return prompted(program, given), (ASKED[0][1], 0)
+
+
+PROMPTS = [by_bytes, in_turn, many_refused, as_long_as_may_be, too_long, ended_in_time]
+
+
+def prompts(program=PROGRAM):
+    """How many prompts answer as they must on a program, and how many not."""
+    program, wrong = pathlib.Path(program).resolve(), {}
+    for prompt in PROMPTS:
+        try:
+            found, wanted = prompt(program)
+        except (OSError, subprocess.TimeoutExpired) as error:
+            found, wanted = str(error), None
+        if found != wanted:
+            wrong[prompt.__name__] = found
+    print(f"prompts: {len(PROMPTS) - len(wrong)} passed, {len(wrong)} failed", flush=True)
+    for name, found in wrong.items():
+        print(f"    {name}: {str(found)[:400]}")
+    return len(PROMPTS) - len(wrong), len(wrong)
 
 
 def proved(program=PROGRAM):
@@ -143,4 +249,5 @@ def unproved():
 if __name__ == "__main__":
     if len(sys.argv) > 2:
         sys.exit(__doc__.strip())
-    sys.exit(proved(*sys.argv[1:])[1] > 0)
+    failed = [proved(*sys.argv[1:])[1], prompts(*sys.argv[1:])[1]]
+    sys.exit(any(failed))

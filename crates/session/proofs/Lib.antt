@@ -1,4 +1,3 @@
-pub mod WriteLemmas
 pub mod RootLaws
 pub mod ModuleLaws
 pub mod ExclusionLemmas
@@ -7,9 +6,12 @@ pub mod LoadedLaws
 pub mod FoundLaws
 pub mod ReplayLaws
 pub mod PlaceLaws
+pub mod ScopeLaws
+pub mod LineLaws
 pub mod NodeLaws
 pub mod JobLaws
 pub mod CheckLaws
 pub mod NormalLaws
+pub mod PromptLaws
 pub mod RunLemmas
 pub mod OneCheckLaws

@@ -27,7 +27,7 @@ use Rattle.session.specs.Jobs.{told_by}
 use Rattle.session.specs.declared.normal_command.Shown.{Shown}
 use Rattle.session.specs.declared.normal_command.Normalised.TheVariants as normalised
 use Rattle.session.specs.Loaded.{stated_by}
-use Rattle.session.specs.Normals.{AreProved, Comes, ComesOf, IsNormalised, IsShown, NormalJob, NotShown, not_stored, nameless, spent, not_taken}
+use Rattle.session.specs.Normals.{AreProved, Comes, ComesOf, IsNormalised, IsNormalText, IsShown, NormalJob, NotShown, not_stored, nameless, spent, not_taken}
 use Rattle.session.specs.Places.{IsLastNamed}
 use Rattle.session.specs.declared.normal_command.Normalised.{Normalised}
 use Rattle.session.proofs.PlaceLaws.{called_inside}
@@ -59,23 +59,29 @@ one_root b n J e = ap (λ o. both consed o (Some [])) e
 pub tree_is : (b : Contents) (equation typing right : ℕ) (e : EquatesClosed b equation typing right) → tree_of (book_means b right) ≡ e.other
 tree_is b equation typing right e = ap tree_of e.means
 
--- what is shown of an equation
-pub shows_equation : (b : Contents) (equation : NodeId) (body right : ℕ) (e : EquatesClosed b equation.0 body right) (s : Shown) (rows : ℕ) → Normal (fix_each []) (tree_of (book_means b right))
-    → string_bytes s.text ≡ shown 0 (tree_of (book_means b right)) ++ 10 ∷ [] → IsWritten s.bytes.items rows (TmEq Nil e.term e.other e.type ∷ []) → IsShown b body s
-shows_equation b equation body right e s rows normal text written =
-    let same = tree_is b equation.0 body right e in
+-- the text of the right side of an equation
+pub text_of_equation : (b : Contents) (equation body right : ℕ) (e : EquatesClosed b equation body right) (text : List ℕ) → Normal (fix_each []) (tree_of (book_means b right))
+    → text ≡ shown 0 (tree_of (book_means b right)) ++ 10 ∷ [] → IsNormalText b equation body text
+text_of_equation b equation body right e text normal is =
+    let same = tree_is b equation body right e in
     record {
       term = e.term;
       type = e.type;
+      normal = e.other;
       typed = e.typed;
-      shows = record {
-        normal = e.other;
-        is_normal = subst (Normal none_fixed) same normal;
-        shown = text ∙ ap (λ t. shown 0 t ++ 10 ∷ []) same;
-        rows = rows;
-        written = written;
-      };
+      equal = e.equal;
+      is_normal = subst (Normal none_fixed) same normal;
+      shown = is ∙ ap (λ t. shown 0 t ++ 10 ∷ []) same;
     }
+
+-- what is shown of it, with its derivation
+pub shows_text : (b : Contents) (equation body : ℕ) (s : Shown) (t : IsNormalText b equation body (string_bytes s.text)) (rows : ℕ) → IsWritten s.bytes.items rows (TmEq Nil t.term t.normal t.type ∷ []) → IsShown b body s
+shows_text b equation body s t rows written = record {
+  term = t.term;
+  type = t.type;
+  typed = t.typed;
+  shows = record { normal = t.normal; is_normal = t.is_normal; shown = t.shown; rows = rows; written = written };
+}
 
 -- what comes of the definition that is named
 pub comes_of : (defs : List CodeDef) (named : Option ℕ) (place : ℕ) (came : Normalised) → AreProved (judgements_of (stated_by defs)) → named ≡ Some place → ComesOf defs place came → Comes defs named came

@@ -1,5 +1,5 @@
 -- What a command leaves whose outcome is known.
-use Rattle.std.proofs.Common.{◌≡◌, ◌≢◌, ℕ, List, subst, None, Some, Option}
+use Rattle.std.proofs.Common.{◌≡◌, ◌≢◌, ℕ, List, refl, subst, None, Some, Option}
 use Rattle.host_io.specs.Seen.{SeenFiles}
 use Rattle.host_io.specs.declared.files.Stored.{Stored}
 use Rattle.host_io.specs.declared.files.Stored.TheVariants as stored
@@ -36,6 +36,15 @@ stores see (Some (Prompt name turns)) One Other old new told may spared stored =
 stores see (Some (Make count)) One Other old new told may spared stored = stored
 stores see (Some (Normal name part turns)) One Other old new told may spared stored = λ spent. leaves (NormalJob name part turns) name (see old) (see new) told (spared spent) may.0
 stores see (Some (Replay path of)) One Other old new told may spared stored = stored
+
+-- what is out of memory at once stores nothing
+pub stores_nothing : {F : Type 0} (see : F → SeenFiles) (command : Option Command) (One : Type 0) (old : F) → MayStore see command One old old
+stores_nothing see None One old = refl
+stores_nothing see (Some (Check name turns json)) One old = λ spent. nothing (refl, refl)
+stores_nothing see (Some (Prompt name turns)) One old = (refl, refl)
+stores_nothing see (Some (Make count)) One old = refl
+stores_nothing see (Some (Normal name part turns)) One old = λ spent. nothing (refl, refl)
+stores_nothing see (Some (Replay path of)) One old = (refl, refl)
 
 -- the less often it is out of memory, the less is asked
 pub stores_less : {F : Type 0} (see : F → SeenFiles) (command : Option Command) (One Other : Type 0) (old new : F) → (Other → One) → MayStore see command One old new → MayStore see command Other old new

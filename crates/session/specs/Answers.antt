@@ -1,7 +1,7 @@
 -- What a command may answer, and what is then printed.
 use Rattle.std.specs.Prelude.{◌≡◌, ◌≢◌, ◌⊎◌, ℕ, false, List, [], length, None, Some}
 use Rattle.std.specs.Prelude.{string_bytes, Option}
-use Rattle.std.specs.Prelude.{Bool, false}
+use Rattle.std.specs.Prelude.{Bool, true, false}
 use Rattle.host_io.specs.Files.{Held, HoldsAt}
 use Rattle.host_io.specs.Seen.{SeenFiles, SeenSource, SeenSink}
 use Rattle.trees.specs.Judgements.{Judgement}
@@ -25,14 +25,14 @@ use Rattle.direct.specs.Direct.{other_place}
 use Rattle.session.specs.Loaded.{IsRead}
 use Rattle.session.specs.Jobs.{MayDo, MayLeave}
 use Rattle.session.specs.Checks.{CheckJob}
-use Rattle.session.specs.Normals.{NormalJob}
+use Rattle.session.specs.Normals.{AreProved, NormalJob}
 use Rattle.session.specs.Makes.{Makes}
-use Rattle.session.specs.Writes.{WrittenWhole, CutOff}
-
--- A text was printed whole, with its status, or a write failed and not all of it went out.
-abbrev pub Printed : List ℕ → Status → SeenSink → SeenSink → Status → Type 0
-Printed text whole old new result =
-    ((result ≡ whole) × WrittenWhole text old new) ⊎ ((result ≡ status.Fault) × CutOff text old new)
+use Rattle.session.specs.Lines.{AnswersLine}
+use Rattle.session.specs.Printing.{Printed}
+use Rattle.session.specs.Prompts.{Closed, PromptJob}
+use Rattle.dialogue.specs.declared.talking.Ending.{Ending}
+use Rattle.dialogue.specs.Dialogues.{Talked}
+use Rattle.linking.specs.Modules.{judgements}
 
 -- What may be said of the bytes of a file, where its roots may be wanted to be these: yes exactly
 -- where all rows are right and the roots are these.
@@ -66,8 +66,8 @@ abbrev pub MayReplay : Option Held → List ℕ → Option (List ℕ) → Outcom
 MayReplay held path None result = IsReplayed held path None result
 MayReplay held path (Some name) result = MayReplayOf held path name result
 
--- When a command may end so; words that are no command have one answer, and so far those of
--- `prompt`.
+-- When a command may end so that answers once, as `prompt` does of definitions that are not typed;
+-- words that are no command have one answer.
 abbrev pub MayAnswer : Option Command → SeenFiles → SeenFiles → Outcome → Type 0
 MayAnswer (Some (Check name turns json)) old new result =
     MayDo (CheckJob name turns) name old new result × IsCounted old new result
@@ -75,7 +75,8 @@ MayAnswer (Some (Normal name part turns)) old new result =
     MayDo (NormalJob name part turns) name old new result × IsCounted old new result
 MayAnswer (Some (Replay path of)) old new result =
     MayReplay old.held path of result × IsCounted old new result
-MayAnswer (Some (Prompt name turns)) old new result = result ≡ outcome.Usage
+MayAnswer (Some (Prompt name turns)) old new result =
+    MayDo (PromptJob name turns) name old new result × IsCounted old new result
 MayAnswer (Some (Make count)) old new result = Makes count result
 MayAnswer None old new result = result ≡ outcome.Usage
 
@@ -97,6 +98,11 @@ abbrev pub wants_json : Option Command → Bool
 wants_json (Some (Check name turns json)) = json
 wants_json _ = false
 
+-- whether a command answers lines
+abbrev pub asks_lines : Option Command → Bool
+asks_lines (Some (Prompt name turns)) = true
+asks_lines _ = false
+
 -- the command ended, and its text was printed
 pub record Answered (command : Option Command) (old new : Seen) (result : Status) : Type 0 where
   pub outcome : Outcome
@@ -112,7 +118,7 @@ MayStore see (Some (Check name turns json)) OutOfMemory old new =
 MayStore see (Some (Normal name part turns)) OutOfMemory old new =
     OutOfMemory → MayLeave (NormalJob name part turns) name (see old) (see new)
 MayStore see (Some (Replay path of)) OutOfMemory old new = StoresNothing (see old) (see new)
-MayStore see (Some (Prompt name turns)) OutOfMemory old new = new ≡ old
+MayStore see (Some (Prompt name turns)) OutOfMemory old new = StoresNothing (see old) (see new)
 MayStore see (Some (Make count)) OutOfMemory old new = new ≡ old
 MayStore see None OutOfMemory old new = new ≡ old
 
@@ -122,11 +128,32 @@ module _ {F I O : Type 0} (files : F → SeenFiles)
   abbrev pub seen : World F I O → Seen
   seen all = world (files all.files) (input all.input) (out all.out)
 
-  pub record Ran (command : Option Command) (old new : World F I O) (result : Status) : Type 0 where
-    pub answer : result ≢ status.Memory → Answered command (seen old) (seen new) result
-    pub memory : result ≡ status.Memory → new.out ≡ old.out
-    pub stored : MayStore files command (result ≡ status.Memory) old.files new.files
-    pub read : new.input ≡ old.input
+  -- it answered once
+  pub record RanOnce (command : Option Command) (old new : World F I O) (result : Status) : Type 0
+    where
+      pub answer : result ≢ status.Memory → Answered command (seen old) (seen new) result
+      pub memory : result ≡ status.Memory → new.out ≡ old.out
+      pub stored : MayStore files command (result ≡ status.Memory) old.files new.files
+      pub read : new.input ≡ old.input
+
+  -- All that the text of the module spells can be derived, and lines were answered behind it.
+  pub record RanLines (name : List ℕ) (turns : ℕ) (old new : World F I O) (result : Status) :
+      Type 0 where
+    pub texts : List Text
+    pub codes : Codes
+    pub read : IsRead (files old.files).held name texts codes
+    pub proved : AreProved (judgements texts)
+    pub ending : Ending
+    pub answered : SeenSink
+    pub talked : Talked (AnswersLine texts (defs_in codes) turns) (input old.input)
+        (input new.input) (out old.out) answered ending
+    pub closed : Closed ending answered (out new.out) result
+    pub kept : files new.files ≡ files old.files
+
+  pub data Ran (command : Option Command) (old new : World F I O) (result : Status) : Type 0 where
+    once : RanOnce command old new result → Ran command old new result
+    by_lines : (name : List ℕ) (turns : ℕ) → command ≡ Some (Prompt name turns)
+        → RanLines name turns old new result → Ran command old new result
 
 -- A law: of one file there is one verdict, yes with these numbers or no at that row.
 abbrev pub OneVerdict : Type 0

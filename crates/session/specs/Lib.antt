@@ -1,4 +1,3 @@
-pub mod Writes
 pub mod Counted
 pub mod Modules
 pub mod Loaded
@@ -10,4 +9,8 @@ pub mod Others
 pub mod Checks
 pub mod Normals
 pub mod Makes
+pub mod Printing
+pub mod Scopes
+pub mod Lines
+pub mod Prompts
 pub mod Answers

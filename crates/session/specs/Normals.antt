@@ -97,6 +97,17 @@ asked_job asked = NormalJob asked.module_name.now asked.name.now asked.turns
 
 -- steps of that
 
+-- The text shows the normal form of the closed term that one node types, and another one concludes
+-- that the term is equal to it.
+pub record IsNormalText (b : Contents) (equation body : ℕ) (text : List ℕ) : Type 0 where
+  pub term : Tree
+  pub type : Tree
+  pub normal : Tree
+  pub typed : book_concludes b body ≡ Some (Tm Nil term type)
+  pub equal : book_concludes b equation ≡ Some (TmEq Nil term normal type)
+  pub is_normal : Normal none_fixed normal
+  pub shown : text ≡ shown 0 normal ++ 10 ∷ []
+
 -- what is shown of the closed term that a node types
 pub record IsShown (b : Contents) (body : ℕ) (s : Shown) : Type 0 where
   pub term : Tree

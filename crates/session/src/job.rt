@@ -1,7 +1,8 @@
 //! What a command comes to once its module is read.
 
+ghost use Rattle.std.specs.Prelude.{◌≡◌};
 ghost use Rattle.host_io.specs.Seen.{seen_files};
-ghost use Rattle.session.specs.Jobs.{CarriesOut};
+ghost use Rattle.session.specs.Jobs.{CarriesOut, told_by};
 
 use host_io::{Files, Stored};
 use outcomes::Outcome;
@@ -18,6 +19,18 @@ pub(crate) enum Job {
         bytes: Vec<u8>,
         told: Outcome,
     },
+}
+
+impl Job {
+    /// What is told, where all goes well.
+    pub(crate) fn told(self) -> Outcome
+        ensures { result ≡ told_by self }
+    {
+        match self {
+            Job::Tell(told) => told,
+            Job::Store { told, .. } => told,
+        }
+    }
 }
 
 /// Does it. The only error is out of memory.

@@ -1,13 +1,16 @@
 //! The command `normal`: it checks a module, normalises the body of one of its definitions, and
 //! stores the derivation of that.
 
-ghost use Rattle.std.specs.Prelude.{◌≡◌, ◌<◌, ℕ, IfOk, IsErr, Some, length, string_bytes};
+ghost use Rattle.std.specs.Prelude.{◌≡◌, ◌<◌, ℕ, IfOk, IsErr, Some, String, length};
+ghost use Rattle.std.specs.Prelude.{string_bytes};
+ghost use Rattle.std.specs.declared.alloc.Global.{Global};
 ghost use Rattle.resolver.specs.Resolved.{defs_in};
 ghost use Rattle.host_io.specs.Seen.{seen_files};
 ghost use Rattle.linking.specs.Linked.{IsLinked};
 ghost use Rattle.session.specs.Jobs.{MayDo, MayLeave};
 ghost use Rattle.session.specs.Loaded.{texts_of};
-ghost use Rattle.session.specs.Normals.{Comes, ComesOf, IsShown, asked_job, normal_path};
+ghost use Rattle.session.specs.Normals.{Comes, ComesOf, IsNormalText, IsShown, asked_job};
+ghost use Rattle.session.specs.Normals.{normal_path};
 ghost use Rattle.session.specs.Counted.{IsCounted};
 ghost use Rattle.session.specs.declared.normal_command.Shown.{Shown};
 
@@ -57,14 +60,16 @@ enum Normalised {
     NotTaken(usize),
 }
 
-/// A normal form in print, of an equation of a closed term with it. None where a test fails.
-fn shown_of(
+/// The text of a normal form with its newline, of an equation of a closed term with it. None where
+/// a test fails.
+pub(crate) fn normal_text(
     alloc: Global,
     book: &Book,
     equation: NodeId,
     body: NodeId,
-) -> Result<Option<Shown>, AllocError>
-    ensures { IfOk result (λ found. (s : Shown) → found ≡ Some s → IsShown book.now body.0 s) }
+) -> Result<Option<String>, AllocError>
+    ensures { IfOk result (λ found. (text : String Global) → found ≡ Some text →
+        IsNormalText book.now equation.0 body.0 (string_bytes text)) }
 {
     let Some(right) = other_side(alloc, book, equation, body)? else {
         return Ok(None);
@@ -76,6 +81,21 @@ fn shown_of(
     show(alloc, book, 0, right, &mut text)?;
     text.push(b'\n')?;
     let Ok(text) = String::from_utf8(text) else {
+        return Ok(None);
+    };
+    Ok(Some(text))
+}
+
+/// A normal form in print, of an equation of a closed term with it. None where a test fails.
+fn shown_of(
+    alloc: Global,
+    book: &Book,
+    equation: NodeId,
+    body: NodeId,
+) -> Result<Option<Shown>, AllocError>
+    ensures { IfOk result (λ found. (s : Shown) → found ≡ Some s → IsShown book.now body.0 s) }
+{
+    let Some(text) = normal_text(alloc, book, equation, body)? else {
         return Ok(None);
     };
     let bytes = derivation_of(alloc, book, &[equation])?;

@@ -1,12 +1,14 @@
 //! Definitions of several modules, by their places among all.
 
-ghost use Rattle.std.specs.Prelude.{◌≡◌, ◌<◌, ◌↔◌, IfOk, IsTrue, Some, length, map, slice_get};
+ghost use Rattle.std.specs.Prelude.{◌≡◌, ◌<◌, ◌↔◌, IfOk, IsTrue, Some, length, map};
+ghost use Rattle.std.specs.Prelude.{slice_get, string_bytes};
 ghost use Rattle.resolver.specs.Resolved.{defs_in};
 ghost use Rattle.module_texts.specs.Texts.{text_of};
 ghost use Rattle.linking.specs.Linked.{IsLinked};
 ghost use Rattle.session.specs.Loaded.{texts_of};
 ghost use Rattle.session.specs.Places.{IsLastNamed, IsRefusalIn, IsRefusedAt, IsSpentAt};
 ghost use Rattle.session.specs.Places.{IsSpentIn, Named, names, places, span_of};
+ghost use Rattle.session.specs.Scopes.{IsNumberedAt, IsScopeBehind};
 
 use crate::program::Program;
 use codes::Code;
@@ -14,6 +16,7 @@ use examining::Place;
 use layout_lexer::Span;
 use module_texts::{ModuleText, name_at, path_of};
 use outcomes::{Cause, Outcome, Refusal, refused};
+use resolver::{Name, Scope, ScopeName, ScopeNames};
 use std::alloc::{AllocError, Global};
 
 /// The module that holds the definition at this place among those of all modules.
@@ -50,7 +53,7 @@ pub(crate) fn refused_at(
 }
 
 /// The piece of the text that a code spells.
-fn span_of(code: &Code) -> Span
+pub(crate) fn span_of(code: &Code) -> Span
     ensures { result ≡ span_of code.now }
 {
     match code {
@@ -150,6 +153,18 @@ pub(crate) fn spent_at(
     })
 }
 
+/// The name of the definition at this place among those of all modules.
+fn name_of(alloc: Global, program: &Program, place: usize) -> Result<String, AllocError>
+    requires linked { IsLinked (texts_of program.now) program.now.codes }
+    requires within { place < length (defs_in program.now.codes) }
+    ensures { IfOk result (λ name.
+        slice_get (names (texts_of program.now)) place ≡ Some (string_bytes name)) }
+{
+    let span = program.codes.as_slice()[place].name;
+    let spelt = name_at(alloc, &holder(&program.texts, place).bytes, span)?;
+    Ok(spelt)
+}
+
 /// Whether the definition at this place among those of all modules has the name.
 fn is_named(alloc: Global, program: &Program, place: usize, name: &str) -> Result<bool, AllocError>
     requires linked { IsLinked (texts_of program.now) program.now.codes }
@@ -157,9 +172,33 @@ fn is_named(alloc: Global, program: &Program, place: usize, name: &str) -> Resul
     ensures { IfOk result (λ is.
         IsTrue is ↔ (slice_get (names (texts_of program.now)) place ≡ Some name.now)) }
 {
-    let span = program.codes.as_slice()[place].name;
-    let spelt = name_at(alloc, &holder(&program.texts, place).bytes, span)?;
+    let spelt = name_of(alloc, program, place)?;
     Ok(spelt.as_str() == name)
+}
+
+/// The name of the definition at this place among those of all modules, with its number.
+fn numbered_name(alloc: Global, program: &Program, place: usize) -> Result<ScopeName, AllocError>
+    requires linked { IsLinked (texts_of program.now) program.now.codes }
+    requires within { place < length (defs_in program.now.codes) }
+    ensures { IfOk result (IsNumberedAt (texts_of program.now) (defs_in program.now.codes) place) }
+{
+    let spelt = name_of(alloc, program, place)?;
+    let name = Name::new(alloc, spelt.as_bytes())?;
+    let def = program.codes.as_slice()[place].number;
+    Ok(ScopeName { name, def })
+}
+
+/// The scope behind all definitions.
+pub(crate) fn scope_behind(alloc: Global, program: &Program) -> Result<Scope, AllocError>
+    requires { IsLinked (texts_of program.now) program.now.codes }
+    ensures { IfOk result (IsScopeBehind (texts_of program.now) (defs_in program.now.codes)) }
+{
+    let mut names = ScopeNames::new(alloc);
+    for place in 0..program.codes.as_slice().len() {
+        names.push(numbered_name(alloc, program, place)?)?;
+    }
+    let next = program.codes.next();
+    Ok(Scope { names, next })
 }
 
 /// The place of the last definition that has the name, among those at the top level of all modules,

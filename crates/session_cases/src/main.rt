@@ -37,6 +37,7 @@ impl Layer for Place {
             "files" => self.clear(alloc, input)?,
             "file" => self.put(input)?,
             "chain" => self.chain(alloc, input)?,
+            "input" => self.set_input(alloc, input)?,
             "sink" => self.set_sink(alloc, input)?,
             _ => return Ok(Some(told(alloc, self, case)?)),
         }

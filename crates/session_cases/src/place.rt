@@ -1,4 +1,4 @@
-//! Where words are run: files in memory, and what the output takes.
+//! Where words are run: files in memory, what the input gives, and what the output takes.
 
 use crate::loaded::{loaded_shown, put_chain};
 use host_io::{MemFiles, MemSink, MemSource};
@@ -9,12 +9,16 @@ use std::alloc::{AllocError, Global};
 /// The bytes that an output takes where nothing else is said.
 const ROOM: usize = 1000;
 
-/// Files, how many bytes an output takes, which of its writes fail, and what was shown last.
+/// Files, what an input gives, how many bytes an output takes, and what was shown last.
 #[derive(Drop)]
 pub(crate) struct Place {
     files: MemFiles,
+    given: String,
+    /// The reads of an input that fail.
+    failing_reads: Vec<u64>,
     room: usize,
-    failing: Vec<u64>,
+    /// The writes of an output that fail.
+    failing_writes: Vec<u64>,
     last: String,
 }
 
@@ -25,11 +29,13 @@ struct Ended {
     status: Status,
 }
 
-/// The numbers of a text.
+/// The numbers of a text; its other words are none.
 fn numbers(alloc: Global, text: &str) -> Result<Vec<u64>, AllocError> {
     let mut found = Vec::new(alloc);
     for word in text.split_whitespace() {
-        found.push(word.parse::<u64>().unwrap_or(0))?;
+        if let Ok(number) = word.parse::<u64>() {
+            found.push(number)?;
+        }
     }
     Ok(found)
 }
@@ -43,25 +49,26 @@ fn words_of(alloc: Global, text: &str) -> Result<Vec<String>, AllocError> {
     Ok(words)
 }
 
-/// Runs the words with an empty input. It stands alone, so that no other proof meets what is stated
-/// of a run.
+/// Runs the words. It stands alone, so that no other proof meets what is stated of a run.
 fn run_over(
     alloc: Global,
     words: &[String],
     files: &mut MemFiles,
+    input: &mut MemSource,
     out: &mut MemSink,
-) -> Result<Status, AllocError> {
-    let mut input = MemSource::new(alloc, &[], &[])?;
-    Ok(run(alloc, words, files, &mut input, out))
+) -> Status {
+    run(alloc, words, files, input, out)
 }
 
 impl Place {
-    /// A place with no files, where nothing fails.
+    /// A place with no files and an empty input, where nothing fails.
     pub(crate) fn new(alloc: Global) -> Result<Place, AllocError> {
         Ok(Place {
             files: MemFiles::new(alloc, &[])?,
+            given: String::new(alloc),
+            failing_reads: Vec::new(alloc),
             room: ROOM,
-            failing: Vec::new(alloc),
+            failing_writes: Vec::new(alloc),
             last: String::new(alloc),
         })
     }
@@ -73,11 +80,20 @@ impl Place {
         Ok(())
     }
 
+    /// From here on an input gives what stands behind the first line, where `\r` is a carriage
+    /// return, and its reads of the numbers on that line fail.
+    pub(crate) fn set_input(&mut self, alloc: Global, input: &str) -> Result<(), AllocError> {
+        let (failing, given) = input.split_once("\n").unwrap_or((input, ""));
+        self.given = given.replace(alloc, "\\r", "\r")?;
+        self.failing_reads = numbers(alloc, failing)?;
+        Ok(())
+    }
+
     /// From here on an output takes so many bytes, and its writes of the other numbers fail.
     pub(crate) fn set_sink(&mut self, alloc: Global, input: &str) -> Result<(), AllocError> {
         let (room, failing) = input.split_once(" ").unwrap_or((input, ""));
         self.room = room.parse::<usize>().unwrap_or(0).min(ROOM);
-        self.failing = numbers(alloc, failing)?;
+        self.failing_writes = numbers(alloc, failing)?;
         Ok(())
     }
 
@@ -99,8 +115,9 @@ impl Place {
 
     fn run(&mut self, alloc: Global, words: &str) -> Result<Ended, AllocError> {
         let words = words_of(alloc, words)?;
-        let mut out = MemSink::new(alloc, self.room, &self.failing)?;
-        let status = run_over(alloc, &words, &mut self.files, &mut out)?;
+        let mut input = MemSource::new(alloc, self.given.as_bytes(), &self.failing_reads)?;
+        let mut out = MemSink::new(alloc, self.room, &self.failing_writes)?;
+        let status = run_over(alloc, &words, &mut self.files, &mut input, &mut out);
         let text = String::from_utf8_lossy(alloc, out.as_slice())?;
         Ok(Ended { text, status })
     }
