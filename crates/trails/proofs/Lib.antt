@@ -1,0 +1,10 @@
+pub mod RowLaws
+pub mod OpeningLaws
+pub mod KidLaws
+pub mod StationLaws
+pub mod TrailLaws
+pub mod StepLaws
+pub mod EquationLaws
+pub mod ContextLaws
+pub mod EndLaws
+pub mod GoesLaws
