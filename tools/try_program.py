@@ -12,6 +12,7 @@ which the gate has built alone, since they answer while they are asked.
 import concurrent.futures
 import os
 import pathlib
+import re
 import shutil
 import subprocess
 import sys
@@ -178,7 +179,36 @@ def ended_in_time(program):
     return prompted(program, given), (ASKED[0][1], 0)
 
 
-PROMPTS = [by_bytes, in_turn, many_refused, as_long_as_may_be, too_long, ended_in_time]
+def refused_line(number):
+    """A line that is refused, with a type that has as many forms as the number has digits."""
+    digits = "".join("nat -> " if digit == "1" else "U -> " for digit in f"{number:b}")
+    return f"(\\(x : {digits}nat) -> x) zero"
+
+
+def refusing(program, count):
+    """The first words that answer so many refused lines, and the kilobytes that the prompt had at
+    most by then."""
+    words = set()
+    with prompting(program) as started:
+        for number in range(1, count + 1):
+            started.stdin.write(f"{refused_line(number)}\n".encode())
+            started.stdin.flush()
+            words.add(started.stdout.readline()[:13].decode())
+            _found, _wanted = started.stdout.readline(), started.stdout.readline()
+        status = pathlib.Path(f"/proc/{started.pid}/status").read_text()
+        started.communicate(b":q\n", timeout=LIMIT)
+    return words, int(re.search(r"VmHWM:\s*(\d+) kB", status)[1])
+
+
+def refused_cost_no_memory(program):
+    """20,000 refused lines, each with a term of its own, take at most 16 MB more than 2,000."""
+    (few, before), (many, after) = (refusing(program, count) for count in (2_000, 20_000))
+    found = few | many, after - before <= 16_384 or f"{before} kB, and then {after} kB"
+    return found, ({"no: Mismatch "}, True)
+
+
+PROMPTS = [by_bytes, in_turn, many_refused, as_long_as_may_be, too_long, ended_in_time,
+           refused_cost_no_memory]
 
 
 def prompts(program=PROGRAM):

@@ -9,9 +9,11 @@ ghost use Rattle.session.specs.Loaded.{texts_of};
 ghost use Rattle.session.specs.Places.{span_of};
 ghost use Rattle.session.specs.Prompts.{answers_of};
 
+use crate::found::{Found, found_of};
 use crate::marks::give_back;
-use crate::prompted::Prompt;
+use crate::prompted::{Prompt, TypedBook};
 use crate::terms::Asked;
+use book::Book;
 use dialogue::Answering;
 use grammar::read_exp;
 use layout_lexer::tokens;
@@ -58,6 +60,22 @@ impl Prompt<'_> {
         }
     }
 
+    /// Types the definitions anew, if lines have left many rows, so that lines cost no memory.
+    fn renew(&mut self, alloc: Global) -> Result<(), AllocError>
+        ensures program { self.new.program ≡ self.old.program }
+        ensures turns { self.new.turns ≡ self.old.turns }
+    {
+        if !self.typed.is_full() {
+            return Ok(());
+        }
+        let mut book = Book::new(alloc)?;
+        let defs = self.program.codes.as_slice();
+        if let Found::Stated(nodes) = found_of(alloc, &mut book, defs, self.turns)? {
+            self.typed = TypedBook::new(book, nodes);
+        }
+        Ok(())
+    }
+
     /// What is told of a term. What the book learnt of it is given back.
     fn told_of(&mut self, alloc: Global, code: &Code) -> Result<Outcome, AllocError>
         ensures told { let program = self.old.program.now in (bytes : List ℕ) (t : Tree) →
@@ -66,15 +84,16 @@ impl Prompt<'_> {
         ensures program { self.new.program ≡ self.old.program }
         ensures turns { self.new.turns ≡ self.old.turns }
     {
-        let held = self.book.mark().nodes;
+        self.renew(alloc)?;
+        let held = self.typed.book.mark().nodes;
         let asked = Asked {
             defs: self.program.codes.as_slice(),
-            nodes: &self.nodes,
+            nodes: &self.typed.nodes,
             code,
             turns: self.turns,
         };
-        let told = asked.told(alloc, &mut self.book);
-        give_back(&mut self.book, held);
+        let told = asked.told(alloc, &mut self.typed.book);
+        give_back(&mut self.typed.book, held);
         told
     }
 

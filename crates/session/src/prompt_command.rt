@@ -13,7 +13,7 @@ use crate::others::{other_job, other_of};
 use crate::places::scope_behind;
 use crate::printing::print;
 use crate::program::{Program, read_program};
-use crate::prompted::Prompt;
+use crate::prompted::{Prompt, TypedBook};
 use book::Book;
 use dialogue::{Ending, talk};
 use host_io::{Files, Sink, Source};
@@ -52,11 +52,11 @@ fn begin<'a>(
     };
     book.laws_of_nodes();
     let scope = scope_behind(alloc, program)?;
+    let typed = TypedBook::new(book, nodes);
     Ok(Begun::Typed(Prompt {
         program,
         scope,
-        book,
-        nodes,
+        typed,
         turns,
     }))
 }
