@@ -44,8 +44,8 @@ OF_RULES = [path.read_bytes() for path in sorted((ROOT / "tests").glob("*.drv"))
 OLD = b"what stood here before\n"
 
 # Refusals of definitions, and those that show something, of which the second group differ.
-OF_DEFINITION = r"no: (RefusedForm|CannotInfer|UInU|Wanted\w+|Mismatch|SidesDiffer) |spent: "
-SHOWING = r"no: (UInU|Wanted\w+|(Mismatch|SidesDiffer)) "
+OF_DEFINITION = r"no: (RefusedForm|CannotInfer|UInU|Wanted\w+|Mismatch|SidesDiffer|Unaligned) |spent: "
+SHOWING = r"no: (UInU|Wanted\w+|(Mismatch|SidesDiffer)|(Unaligned)) "
 
 # A text, and what must hold of it.
 Case = collections.namedtuple("Case", "kind text holds")
@@ -86,7 +86,7 @@ def hold_of_refused(program, name, text, of_two):
     hold(evidence.exists() == bool(shown), "evidence", text)
     if shown:
         said = program.run("replay", evidence.name).text
-        roots = 2 if shown[2] else 1
+        roots = 3 if shown[3] else 2 if shown[2] else 1
         hold(re.fullmatch(rf"yes: \d+ rows, {roots} roots\n", said), "evidence", f"{text}{said}")
         line, _ = judged(evidence.read_bytes()) or (said, None)
         hold(said == line, "judge of evidence", f"{line!r}, and {said!r}")

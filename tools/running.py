@@ -13,7 +13,7 @@ AT = "NotUtf8|BadByte|OpenComment|RefusedForm|Unexpected|TooDeep|Unbound|Twice|N
 WHOLE = "TooLong|ImportCycle|TooMany|MissingFile|NoSuchName"
 PLACE = r"at \d+ in \S+\.ctt"
 TYPED = rf"(WantedFunction|WantedPair|WantedPath|WantedGlue|WantedType) {PLACE}\ntype: .+"
-SIDES = rf"(Mismatch {PLACE}|SidesDiffer {PLACE}\nface:.*)\nfound: .+\nwanted: .+"
+SIDES = rf"((Mismatch|Unaligned) {PLACE}|SidesDiffer {PLACE}\nface:.*)\nfound: .+\nwanted: .+"
 LINES = {
     0: r"yes: \d+ definitions|yes: \d+ rows, \d+ roots|(?!yes|no|spent|fault|usage)[(\w].*",
     1: rf"no: (row \d+|root \d+|({AT}|CannotInfer|UInU) {PLACE}|({WHOLE}) in \S+|{TYPED}|{SIDES})",

@@ -4,13 +4,15 @@ use crate::moves::{Outcome, answer};
 use book::{Book, NodeId};
 use std::alloc::{AllocError, Global};
 use tested_steps::{Fault, context_of};
-use values::{Answers, Part, Question, Reply, suspend};
+use values::{Answers, Part, Question, Reply, Unaligned, suspend};
 
 /// How a normalisation ended.
-#[derive(Clone, Copy, Debug)]
+#[derive(Drop, Debug)]
 pub enum Reached {
     /// With the normal form: the equation with it, and its typing.
     Normal(Part),
+    /// With two types that could not be aligned.
+    Unaligned(Unaligned),
     /// With none after so many moves.
     Spent,
     /// A step was tried that no rule allows.
@@ -27,6 +29,10 @@ fn normal_form(alloc: Global, book: &mut Book, term: NodeId, most: u64) -> Resul
             reply: Reply::Normal(part),
             moves: _,
         } => Ok(Reached::Normal(part)),
+        Outcome::Replied {
+            reply: Reply::Unaligned(unaligned),
+            moves: _,
+        } => Ok(Reached::Unaligned(unaligned)),
         Outcome::Replied { reply: _, moves: _ } => Err(Fault::Misfit),
         Outcome::Spent { moves: _ } => Ok(Reached::Spent),
     }

@@ -68,7 +68,8 @@ impl Run {
     }
 
     /// Makes one move: a step of the state, a question that it asks, or a reply handed to the state
-    /// that waits for it. A reply is kept.
+    /// that waits for it. A reply is kept. Where two types could not be aligned, what waits has that
+    /// reply too.
     fn moved(self, alloc: Global, book: &mut Book, answers: &mut Answers) -> Result<Next, Fault>
         requires { self.moves + 1 < 2 ^ 64 }
         ensures { IfOk result (λ next. CountsOne self next) }
@@ -85,6 +86,9 @@ impl Run {
                 Asked::new(alloc, answers, asked)
             }
             Step::Done(reply) => {
+                if let Reply::Unaligned(_) = &reply {
+                    return Ok(Next::Replied(reply));
+                }
                 if let Some(answer) = kept_of(&reply) {
                     answers.keep(question, answer)?;
                 }

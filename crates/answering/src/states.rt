@@ -32,7 +32,7 @@ pub fn kept_of(reply: &Reply) -> Option<Kept> {
         Reply::Head(head) => Some(Kept::Head(*head)),
         Reply::Normal(part) => Some(Kept::Normal(*part)),
         Reply::Equal(node) => Some(Kept::Equal(*node)),
-        Reply::Differ(_) => None,
+        Reply::Differ(_) | Reply::Unaligned(_) => None,
     }
 }
 

@@ -169,6 +169,7 @@ impl ConvertState {
                 }
                 with_difference(focus)?
             }
+            Reply::Unaligned(_) => return Err(Fault::Misfit),
         };
         Ok(())
     }

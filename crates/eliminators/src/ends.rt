@@ -203,20 +203,17 @@ pub fn settle_end(
 }
 
 /// A path of another type that no rule rewrites, with the equation that it asked for: the end of
-/// its own type. Without one, that of the type that was asked.
+/// its own type.
 pub fn resume_end(
     alloc: Global,
     book: &mut Book,
     pending: Pending,
-    equation: Option<NodeId>,
+    equation: NodeId,
 ) -> Result<Settled, Fault> {
     let (goal, head) = (pending.frame.goal, pending.head);
     let Some(end) = end_of(book, goal)? else {
-        return Ok(Settled::Closed(close_path(book, goal, head)?));
+        return Err(Fault::Misfit);
     };
-    if equation.is_none() {
-        return Ok(Settled::Fired(fire_asked(alloc, book, goal, head, end)?));
-    }
     let found = found_at_own(alloc, book, head)?;
-    Ok(Settled::Fired(fire_end(book, goal, found, end, equation)?))
+    Ok(Settled::Fired(fire_end(book, goal, found, end, Some(equation))?))
 }

@@ -50,6 +50,9 @@ pub struct Pending {
 pub enum Waiting {
     /// A frame, for an equation of types or of terms.
     Equation(Pending),
+    /// A frame whose main part is of another type than it was asked at, for the normal forms of
+    /// both, which this equates.
+    Alignment(NodeId),
     /// A composition, for the head of its line.
     Line(Goal),
     /// A composition of numbers, for the head of its side where a conjunction of its face is true.

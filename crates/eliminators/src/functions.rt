@@ -137,18 +137,14 @@ fn argument_at(book: &mut Book, goal: Goal, equation: NodeId) -> Result<NodeId, 
     Ok(argument)
 }
 
-/// An application whose function is of another type, with the equation that it asked for, if there
-/// is one.
+/// An application whose function is of another type, with the equation that it asked for.
 pub fn resume_app(
     alloc: Global,
     book: &mut Book,
     pending: Pending,
-    equation: Option<NodeId>,
+    equation: NodeId,
 ) -> Result<Settled, Fault> {
     let (goal, head) = (pending.frame.goal, pending.head);
-    let Some(equation) = equation else {
-        return Ok(Settled::Closed(close_app(book, goal, head)?));
-    };
     match pending.known {
         Known::Nothing => {
             let argument = argument_at(book, goal, equation)?;

@@ -25,6 +25,7 @@ mod small;
 mod under;
 mod unglue;
 
+pub use asks::ask_alignment;
 pub use frames::{Eliminator, Frame, Known, OnFace, Pending, Settled, Sides, Waiting};
 pub use functions::{resume_app, settle_app, type_at, type_under};
 pub use gluing::{GlueParts, glue_parts};

@@ -193,13 +193,10 @@ pub fn resume_first(
     alloc: Global,
     book: &mut Book,
     pending: Pending,
-    equation: Option<NodeId>,
+    equation: NodeId,
 ) -> Result<Settled, Fault> {
     let (goal, head) = (pending.frame.goal, pending.head);
-    if equation.is_none() {
-        return Ok(Settled::Closed(close_first(book, goal, head)?));
-    }
-    Ok(Settled::Fired(fire_first(alloc, book, goal, head, equation)?))
+    Ok(Settled::Fired(fire_first(alloc, book, goal, head, Some(equation))?))
 }
 
 /// The second half of a pair of another type, with the equation that it asked for.
@@ -207,11 +204,8 @@ pub fn resume_second(
     alloc: Global,
     book: &mut Book,
     pending: Pending,
-    equation: Option<NodeId>,
+    equation: NodeId,
 ) -> Result<Settled, Fault> {
     let (goal, head) = (pending.frame.goal, pending.head);
-    if equation.is_none() {
-        return Ok(Settled::Closed(close_second(alloc, book, goal, head)?));
-    }
-    Ok(Settled::Fired(fire_second(alloc, book, goal, head, equation)?))
+    Ok(Settled::Fired(fire_second(alloc, book, goal, head, Some(equation))?))
 }

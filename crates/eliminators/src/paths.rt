@@ -81,12 +81,12 @@ pub fn resume_path(
     alloc: Global,
     book: &mut Book,
     pending: Pending,
-    equation: Option<NodeId>,
+    equation: NodeId,
 ) -> Result<Settled, Fault> {
     let (goal, head) = (pending.frame.goal, pending.head);
-    if equation.is_none() || !is_abstraction(book, head)? {
+    if !is_abstraction(book, head)? {
         return resume_end(alloc, book, pending, equation);
     }
     let formula = formula_of(book, goal)?;
-    Ok(Settled::Fired(fire_path(book, goal, head, formula, equation)?))
+    Ok(Settled::Fired(fire_path(book, goal, head, formula, Some(equation))?))
 }

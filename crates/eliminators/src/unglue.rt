@@ -1,5 +1,6 @@
 //! Elements of glued types, unglued.
 
+use crate::asks::ask_alignment;
 use crate::frames::{Frame, Known, Pending, Settled, Waiting};
 use crate::functions::type_under;
 use crate::gluing::{GlueParts, close_unglue, fire_glue, glued_of};
@@ -7,6 +8,7 @@ use crate::under::{Within, equation_under, into_face, within_face};
 use book::{Book, NodeId};
 use glue_entries::{EQUIV_TYCONG, EQUIV_TYCONG_GIVES};
 use kan_rules::{UNGLUE_OTHER, UNGLUE_OTHER_GIVES};
+use std::alloc::Global;
 use tested_steps::{Fault, claim_of, derive, holds_under, premise_of, rule_of};
 use theory::{Claim, GlueRule, RuleName};
 use values::{Goal, Question, Susp, advance, term_under};
@@ -189,7 +191,12 @@ fn fire_other(
 }
 
 /// An element of a glued type that was found, unglued.
-pub fn settle_unglue(book: &mut Book, frame: Frame, head: Goal) -> Result<Settled, Fault> {
+pub fn settle_unglue(
+    alloc: Global,
+    book: &mut Book,
+    frame: Frame,
+    head: Goal,
+) -> Result<Settled, Fault> {
     let goal = frame.goal;
     if rule_of(book, head.susp.typing)? != RuleName::Gluing(GlueRule::Glue) {
         return Ok(Settled::Closed(close_unglue(book, goal, head)?));
@@ -199,20 +206,17 @@ pub fn settle_unglue(book: &mut Book, frame: Frame, head: Goal) -> Result<Settle
     }
     match both_of(book, goal, head)? {
         Some(both) => Ok(ask_bases(frame, head, both)),
-        None => Ok(Settled::Closed(close_unglue(book, goal, head)?)),
+        None => ask_alignment(alloc, book, head),
     }
 }
 
-/// An element of another glued type, unglued, with the equation that it asked for, if there is one.
+/// An element of another glued type, unglued, with the equation that it asked for.
 pub fn resume_unglue(
     book: &mut Book,
     pending: Pending,
-    equation: Option<NodeId>,
+    equation: NodeId,
 ) -> Result<Settled, Fault> {
     let (goal, head) = (pending.frame.goal, pending.head);
-    let Some(equation) = equation else {
-        return Ok(Settled::Closed(close_unglue(book, goal, head)?));
-    };
     let Some(both) = both_of(book, goal, head)? else {
         return Err(Fault::Misfit);
     };

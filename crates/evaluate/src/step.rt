@@ -8,9 +8,9 @@ use crate::true_faces::at_face;
 use book::{Book, NodeId};
 use compositions::{ask_line, settle_line, settle_number, settle_side};
 use eliminators::{
-    Eliminator, Frame, Pending, Settled, Waiting, resume_app, resume_first, resume_path,
-    resume_second, resume_unglue, settle_app, settle_first, settle_natrec, settle_path,
-    settle_second, settle_small, settle_unglue,
+    Eliminator, Frame, Pending, Settled, Waiting, ask_alignment, resume_app, resume_first,
+    resume_path, resume_second, resume_unglue, settle_app, settle_first, settle_natrec,
+    settle_path, settle_second, settle_small, settle_unglue,
 };
 use std::alloc::Global;
 use tested_steps::Fault;
@@ -75,7 +75,7 @@ fn settle(alloc: Global, book: &mut Book, frame: Frame, head: Goal) -> Result<Se
         Eliminator::Second => settle_second(alloc, book, frame, head),
         Eliminator::Small => settle_small(book, frame.goal, head),
         Eliminator::PathApp => settle_path(alloc, book, frame, head),
-        Eliminator::Unglue => settle_unglue(book, frame, head),
+        Eliminator::Unglue => settle_unglue(alloc, book, frame, head),
         Eliminator::CompNat => settle_number(alloc, book, frame.goal, head),
     }
 }
@@ -85,7 +85,7 @@ fn resume(
     alloc: Global,
     book: &mut Book,
     pending: Pending,
-    equation: Option<NodeId>,
+    equation: NodeId,
 ) -> Result<Settled, Fault> {
     match pending.frame.form {
         Eliminator::App => resume_app(alloc, book, pending, equation),
@@ -149,5 +149,7 @@ pub fn step_head(alloc: Global, book: &mut Book, state: HeadState) -> Result<Hea
         Focus::Replied(pending, equation) => {
             after(resume(alloc, book, pending, equation)?, frames)
         }
+        Focus::Apart(pending) => after(ask_alignment(alloc, book, pending.head)?, frames),
+        Focus::Unaligned(unaligned) => Ok(HeadStep::Done(Reply::Unaligned(unaligned))),
     }
 }

@@ -1,6 +1,6 @@
 -- The text of a conjunction, equation by equation.
 use Rattle.std.proofs.Common.{◌≡◌, ◌<◌, ◌+◌, ℕ, List, [], ◌∷◌, ◌++◌, length, take, get_or, sym, ◌∙◌, ap, append_assoc, append-nil}
-use Rattle.std.proofs.lemmas.List.{take_all, take_more}
+use Rattle.std.proofs.lemmas.List.{take_more}
 use Rattle.faces.specs.declared.equations.Equation.{Equation}
 use Rattle.evidence.specs.Faces.{conj_text, equation_text}
 

@@ -1,8 +1,7 @@
 -- Names that the faces of a context fix, one after another.
-use Rattle.std.proofs.Common.{◌≡◌, ◌<◌, ◌≤◌, ◌+◌, ◌⊎◌, inl, inr, ◌↔◌, ℕ, zero, suc, Bool, true, false, ◌||◌, List, [], ◌∷◌, ◌++◌, refl, sym, ◌∙◌, ap, subst, arith, IsTrue, nat_eq}
+use Rattle.std.proofs.Common.{◌≡◌, ◌<◌, ◌≤◌, ◌+◌, ◌⊎◌, inl, inr, ◌↔◌, ℕ, Bool, true, false, ◌||◌, List, [], ◌∷◌, ◌++◌, refl, sym, ◌∙◌, ap, subst, arith, IsTrue, nat_eq}
 use Rattle.std.proofs.lemmas.Bool.{cases_lt, eq-eqb, eqb-true, true≢false}
 use Rattle.trees.specs.Judgements.{Context}
-use Rattle.conditions.specs.Sides.{is_name}
 use Rattle.side_conditions.specs.Levels.{count_indices}
 use Rattle.side_conditions.proofs.AgreementLaws.{name_within}
 use Rattle.fixed_names.specs.Fixed.{Fixed, fix, none_fixed}

@@ -5,3 +5,4 @@ pub mod GrowthLaws
 pub mod HeldLaws
 pub mod FaceLaws
 pub mod LineLaws
+pub mod AlignedLaws

@@ -1,5 +1,5 @@
 -- Right sides of equations.
-use Rattle.std.proofs.Common.{◌≡◌, ℕ, refl, sym, ◌∙◌, ap, subst, Option, Some, None, IsSome}
+use Rattle.std.proofs.Common.{◌≡◌, ℕ, refl, sym, ◌∙◌, subst, Option, Some, None, IsSome}
 use Rattle.trees.specs.Judgements.{Judgement}
 use Rattle.trees.specs.Language.{TyEq, TmEq}
 use Rattle.trees.specs.Claimed.{claimed}
@@ -8,8 +8,6 @@ use Rattle.trees.specs.Claims.{form_of as form_of_claim}
 use Rattle.trees.specs.declared.claim.Claim.{Claim}
 use Rattle.trees.specs.declared.claim.Claim.TheVariants as claim
 use Rattle.trees.specs.declared.claim.JudgementForm.TheVariants as form
-use Rattle.rows.specs.declared.views.CtxId.{CtxId}
-use Rattle.rows.specs.declared.views.TermId.{TermId}
 use Rattle.compare.proofs.ClaimLaws.{form_of, said_of}
 use Rattle.recipe_runner.proofs.BuildLaws.{claim-field, some-is}
 use Rattle.book.specs.Contents.{Contents}
@@ -18,12 +16,12 @@ use Rattle.evidence.specs.declared.sides.Side.{Side}
 use Rattle.evidence.specs.declared.sides.Sort.TheVariants as sort
 use Rattle.evidence.specs.Sides.{IsSide}
 
-some_of : {A : Type 0} (o : Option A) → IsSome o → (x : A) × (o ≡ Some x)
+pub some_of : {A : Type 0} (o : Option A) → IsSome o → (x : A) × (o ≡ Some x)
 some_of None some = cc
 some_of (Some x) some = (x, refl)
 
 -- a claim is of the form of the judgement that it is
-formed : (f : Meanings) (c : Claim) (J : Judgement) → claimed f c ≡ Some J → form_of J ≡ form_of_claim c
+pub formed : (f : Meanings) (c : Claim) (J : Judgement) → claimed f c ≡ Some J → form_of J ≡ form_of_claim c
 formed f c J says =
     let s = said_of f c (some-is (claimed f c) J says) in
     let both : Some s.judgement ≡ Some J = sym s.says ∙ says in

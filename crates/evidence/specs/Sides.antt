@@ -10,6 +10,7 @@ use Rattle.evidence.specs.declared.sides.Sort.{Sort}
 use Rattle.evidence.specs.declared.sides.Sort.TheVariants as sort
 use Rattle.evidence.specs.declared.sides.Side.{Side}
 use Rattle.evidence.specs.declared.sides.Place.{Place}
+use Rattle.evidence.specs.declared.aligned.TypesEquation.{TypesEquation}
 use Rattle.side_conditions.specs.Levels.{count_indices}
 use Rattle.evidence.specs.Contexts.{FixesExactly, IsConsistent}
 
@@ -30,3 +31,13 @@ pub record IsPlace (G : Context) (p : Place) : Type 0 where
   pub level : p.level ≡ count_indices G
   pub fixed : FixesExactly G p.fixed.items
   pub consistent : IsConsistent G
+
+-- the node concludes that equation of types, by these rows
+pub record IsOfTypes (b : Contents) (equation : ℕ) (e : TypesEquation) : Type 0 where
+  pub context : Context
+  pub left : Tree
+  pub right : Tree
+  pub context_is : book_means b e.ctx.0 ≡ Some (AContext context)
+  pub left_is : book_means b e.left.0 ≡ Some (ATree left)
+  pub right_is : book_means b e.right.0 ≡ Some (ATree right)
+  pub concluded : book_concludes b equation ≡ Some (TyEq context left right)

@@ -12,6 +12,7 @@ use Rattle.book.specs.Shown.{book_concludes, book_means}
 use Rattle.book_writer.specs.Written.{IsWritten}
 use Rattle.rows.specs.declared.views.TermId.{TermId}
 use Rattle.evidence.specs.declared.sides.Sort.{Sort}
+use Rattle.evidence.specs.declared.aligned.Equated.{Equated}
 use Rattle.evidence.specs.declared.lines.Evidence.{Evidence}
 use Rattle.evidence.specs.declared.texts.Shown.{Shown}
 use Rattle.evidence.specs.declared.texts.Shown.TheVariants as shown
@@ -59,6 +60,33 @@ pub record TwoShown (face : Option Tree) (e : Evidence) : Type 0 where
 abbrev pub AreShown : Option TermId → Evidence → Type 0
 AreShown None e = TwoShown None e
 AreShown (Some row) e = (p : Tree) × TwoShown (Some p) e
+
+-- it derives that two types are equal, and that they are equal to two normal ones, which differ and
+-- are shown
+pub record IsUnaligned (e : Evidence) : Type 0 where
+  pub context : Context
+  pub left : Tree
+  pub right : Tree
+  pub found : Tree
+  pub wanted : Tree
+  pub rows : ℕ
+  pub written : IsWritten e.bytes.items rows
+      (TyEq context left right ∷ TyEq context left found ∷ TyEq context right wanted ∷ [])
+  pub found_normal : IsNormalIn context found
+  pub wanted_normal : IsNormalIn context wanted
+  pub differ : found ≢ wanted
+  pub texts : AreTwoTexts None context found wanted e.shown
+
+-- two types that are equal, and what each is equal to
+pub record AreEquated (b : Contents) (nodes : Equated) : Type 0 where
+  pub context : Context
+  pub left : Tree
+  pub right : Tree
+  pub one : Tree
+  pub other : Tree
+  pub types_is : book_concludes b nodes.types.0 ≡ Some (TyEq context left right)
+  pub found_is : book_concludes b nodes.found.0 ≡ Some (TyEq context left one)
+  pub wanted_is : book_concludes b nodes.wanted.0 ≡ Some (TyEq context right other)
 
 -- an equation of types in G, with a right side that is normal
 pub record IsNormalType (b : Contents) (G : Context) (equation right : ℕ) : Type 0 where

@@ -8,6 +8,7 @@
 //! ```
 #![tactic(auto)]
 
+mod aligned;
 mod contexts;
 mod face_texts;
 mod lines;
@@ -15,5 +16,6 @@ mod openings;
 mod sides;
 mod texts;
 
+pub use aligned::{Equated, unaligned};
 pub use lines::{Evidence, differing, of_type, of_universe};
 pub use texts::Shown;

@@ -37,7 +37,7 @@ pub struct Evidence {
 }
 
 /// What is shown, and a file with these roots.
-fn with_file(
+pub(crate) fn with_file(
     alloc: Global,
     book: &Book,
     shown: Shown,
@@ -165,7 +165,12 @@ pub fn of_type(
 }
 
 /// Whether two rows of contexts mean the same.
-fn same_context(alloc: Global, book: &Book, left: CtxId, right: CtxId) -> Result<bool, AllocError>
+pub(crate) fn same_context(
+    alloc: Global,
+    book: &Book,
+    left: CtxId,
+    right: CtxId,
+) -> Result<bool, AllocError>
     requires left { IsContext (book_means book.now left.0) }
     requires right { IsContext (book_means book.now right.0) }
     ensures { let f = book_means book.now in
@@ -176,7 +181,7 @@ fn same_context(alloc: Global, book: &Book, left: CtxId, right: CtxId) -> Result
 }
 
 /// The normal right sides of two equations of one sort, at a place, if they differ.
-fn two_sides(
+pub(crate) fn two_sides(
     alloc: Global,
     book: &Book,
     place: &Place,
@@ -213,7 +218,7 @@ fn two_sides(
 }
 
 /// What is shown of two trees of a place, on a face if one is named that is one conjunction.
-fn shown_two(
+pub(crate) fn shown_two(
     alloc: Global,
     book: &Book,
     place: &Place,

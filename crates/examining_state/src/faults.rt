@@ -3,7 +3,7 @@
 use book::NodeId;
 use std::alloc::{AllocError, AllocFailed};
 use tested_steps::Fault;
-use values::Trail;
+use values::{Trail, Unaligned};
 
 /// What a type is wanted to be.
 #[derive(Clone, Copy, Debug, PartialEq, Eq)]
@@ -35,6 +35,9 @@ pub enum CheckFault {
     Mismatch(Trail),
     /// Two sides differ where both are, or a side and the base where the side starts: on this face.
     SidesDiffer(u64, Trail),
+    /// Two types that are equal have normal forms that differ, and a term of the one is taken apart
+    /// as one of the other.
+    Unaligned(Unaligned),
 }
 
 /// A refusal, at a place of the text, which is counted in bytes.

@@ -35,8 +35,15 @@ fn is_absurd(book: &mut Book, ctx: NodeId) -> Result<bool, Fault> {
 
 impl Examiner {
     /// The reply to a question that is asked for what begins at a byte.
+    ///
+    /// # Errors
+    /// `Unaligned` where that is the reply.
     fn ask(&mut self, book: &mut Book, at: u32, question: Question) -> Result<Reply, Stop> {
         match answer(self.alloc, book, &mut self.answers, question, self.turns)? {
+            Outcome::Replied {
+                reply: Reply::Unaligned(unaligned),
+                ..
+            } => Err(Stop::refused(at, CheckFault::Unaligned(unaligned))),
             Outcome::Replied { reply, .. } => Ok(reply),
             Outcome::Spent { .. } => Err(Stop::Spent(at)),
         }

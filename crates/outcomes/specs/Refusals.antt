@@ -40,6 +40,7 @@ cause_name cause.WantedType = codes "WantedType"
 cause_name cause.UInU = codes "UInU"
 cause_name cause.Mismatch = codes "Mismatch"
 cause_name cause.SidesDiffer = codes "SidesDiffer"
+cause_name cause.Unaligned = codes "Unaligned"
 
 abbrev pub place_text : Option ℕ → List ℕ
 place_text None = []

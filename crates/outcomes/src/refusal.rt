@@ -62,6 +62,9 @@ pub enum Cause {
     Mismatch,
     /// Two sides are not the same where both are, or a side and the base where it starts.
     SidesDiffer,
+    /// Two types that are equal have normal forms that differ, and a term of the one is taken apart
+    /// as one of the other.
+    Unaligned,
 }
 
 impl Cause {
@@ -93,6 +96,7 @@ impl Cause {
             Cause::UInU => "UInU",
             Cause::Mismatch => "Mismatch",
             Cause::SidesDiffer => "SidesDiffer",
+            Cause::Unaligned => "Unaligned",
         }
     }
 }

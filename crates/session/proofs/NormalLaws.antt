@@ -44,12 +44,13 @@ not_shown_uncounted name part turns texts defs told (not_taken proved k last is)
 pub normal_uncounted : (name part : List ℕ) (turns : ℕ) (texts : List Text) (defs : List CodeDef) (job : Job) → NormalJob name part turns texts defs job → IsUncounted (told_by job)
 normal_uncounted name part turns texts defs (Tell told) is = not_shown_uncounted name part turns texts defs told is
 normal_uncounted name part turns texts defs (Store path bytes told) (inl is) = subst IsUncounted (sym is.is_told) (λ counts. refl)
-normal_uncounted name part turns texts defs (Store path bytes told) (inr is) = subst IsUncounted (sym is.is_told) (λ counts. refl)
+normal_uncounted name part turns texts defs (Store path bytes told) (inr (inl is)) = subst IsUncounted (sym is.is_told) (λ counts. refl)
+normal_uncounted name part turns texts defs (Store path bytes told) (inr (inr is)) = subst IsUncounted (sym is.is_told) (λ counts. refl)
 
 -- definitions that are not all typed
 pub of_other : (name part : List ℕ) (turns : ℕ) (texts : List Text) (defs : List CodeDef) (job : Job) → OtherJob name turns texts defs job → NormalJob name part turns texts defs job
 of_other name part turns texts defs (Tell told) is = not_stored is
-of_other name part turns texts defs (Store path bytes told) is = inr is
+of_other name part turns texts defs (Store path bytes told) is = inr (inl is)
 
 -- one node concludes one judgement
 pub one_root : (b : Contents) (n : NodeId) (J : Judgement) → book_concludes b n.0 ≡ Some J → concluded_by b (n ∷ []) ≡ Some (J ∷ [])
@@ -87,6 +88,7 @@ shows_text b equation body s t rows written = record {
 pub comes_of : (defs : List CodeDef) (named : Option ℕ) (place : ℕ) (came : Normalised) → AreProved (judgements_of (stated_by defs)) → named ≡ Some place → ComesOf defs place came → Comes defs named came
 comes_of defs named place (normalised.Shown s) proved is of = (proved, (place, is, of))
 comes_of defs named place (normalised.Spent k) proved is of = (proved, (place, is, of))
+comes_of defs named place (normalised.Unaligned k e) proved is of = (proved, (place, is, of))
 comes_of defs named place (normalised.NotTaken k) proved is of = (proved, (place, is, of))
 comes_of defs named place (normalised.NotTyped other) proved is of = absurd of
 comes_of defs named place normalised.Nameless proved is of = absurd of

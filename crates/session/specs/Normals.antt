@@ -19,9 +19,13 @@ use Rattle.book_writer.specs.Written.{IsWritten}
 use Rattle.normal_parts.specs.Normal.{Normal}
 use Rattle.fixed_names.specs.Fixed.{none_fixed}
 use Rattle.tree_texts.specs.Show.{shown}
+use Rattle.evidence.specs.declared.lines.Evidence.{Evidence}
+use Rattle.evidence.specs.Told.{IsUnaligned}
+use Rattle.examining.specs.declared.examiner.Place.{Place}
 use Rattle.outcomes.specs.declared.outcome.Outcome.{Outcome}
 use Rattle.outcomes.specs.declared.outcome.Outcome.TheVariants as outcome
 use Rattle.outcomes.specs.declared.refusal.Cause.TheVariants as cause
+use Rattle.outcomes.specs.declared.refusal.Refusal.{Refusal}
 use Rattle.session.specs.declared.job.Job.{Job}
 use Rattle.session.specs.declared.job.Job.TheVariants.{Tell, Store}
 use Rattle.session.specs.declared.normal_command.Asked.{Asked}
@@ -30,9 +34,9 @@ use Rattle.session.specs.declared.normal_command.Normalised.{Normalised}
 use Rattle.session.specs.declared.normal_command.Normalised.TheVariants as normalised
 use Rattle.outcomes.specs.Refusals.{refusal}
 use Rattle.session.specs.Loaded.{stated_by}
-use Rattle.session.specs.Places.{IsLastNamed, IsRefusedAt, IsSpentAt}
+use Rattle.session.specs.Places.{IsLastNamed, IsRefusalIn, IsRefusedAt, IsSpentAt, span_of}
 use Rattle.session.specs.Others.{IsOther}
-use Rattle.session.specs.Checks.{IsRefuted, NotStored}
+use Rattle.session.specs.Checks.{IsRefuted, NotStored, evidence_path}
 
 -- the path of the derivation of a normal form
 abbrev pub normal_path : List ℕ → List ℕ → List ℕ
@@ -73,6 +77,25 @@ pub record IsStoredNormal (name part : List ℕ) (texts : List Text) (defs : Lis
   pub path_is : path ≡ normal_path name part
   pub is_told : told ≡ outcome.Shown text
 
+-- A file is stored that is evidence that two types could not be aligned where the last definition
+-- that has the name is normalised. It is told with the first byte of its body.
+pub record IsUnalignedAt (name part : List ℕ) (texts : List Text) (defs : List CodeDef)
+    (path bytes : List ℕ) (told : Outcome) : Type 0 where
+  pub place : ℕ
+  pub last : IsLastNamed texts part (Some place)
+  pub proved : AreProved (judgements texts)
+  pub code : CodeDef
+  pub code_is : slice_get defs place ≡ Some code
+  pub at : Place
+  pub at_is : at ≡ record { definition = place; at = (span_of (out-CodeDef code).body).start }
+  pub refusal : Refusal
+  pub refused : IsRefusalIn texts at cause.Unaligned refusal
+  pub path_is : path ≡ evidence_path name
+  pub evidence : Evidence
+  pub evidence_is : IsUnaligned evidence
+  pub bytes_are : evidence.bytes.items ≡ bytes
+  pub is_told : told ≡ outcome.Refuted refusal evidence.shown
+
 -- what is told where there is none
 pub data NotShown (name part : List ℕ) (turns : ℕ) (texts : List Text) (defs : List CodeDef)
     (told : Outcome) : Type 0 where
@@ -91,6 +114,7 @@ NormalJob name part turns texts defs (Tell told) = NotShown name part turns text
 NormalJob name part turns texts defs (Store path bytes told) =
     IsStoredNormal name part texts defs (string_bytes path) bytes.items told
     ⊎ IsRefuted name texts defs (string_bytes path) bytes.items told
+    ⊎ IsUnalignedAt name part texts defs (string_bytes path) bytes.items told
 
 abbrev pub asked_job : Asked → List Text → List CodeDef → Job → Type 0
 asked_job asked = NormalJob asked.module_name.now asked.name.now asked.turns
@@ -122,6 +146,7 @@ ComesOf defs place (normalised.Shown s) =
     × IsNormalised (judgements_of (stated_by defs)) (out-CodeDef code).number
     (string_bytes s.text) s.bytes.items
 ComesOf defs place (normalised.Spent k) = k ≡ place
+ComesOf defs place (normalised.Unaligned k e) = (k ≡ place) × IsUnaligned e
 ComesOf defs place (normalised.NotTaken k) = k ≡ place
 ComesOf defs place _ = ⊥
 

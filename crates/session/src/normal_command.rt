@@ -1,26 +1,33 @@
 //! The command `normal`: it checks a module, normalises the body of one of its definitions, and
 //! stores the derivation of that.
 
-ghost use Rattle.std.specs.Prelude.{◌≡◌, ◌<◌, ℕ, IfOk, IsErr, Some, String, length};
+ghost use Rattle.std.specs.Prelude.{◌≡◌, ◌<◌, ℕ, IfOk, IsErr, List, Some, String, length};
 ghost use Rattle.std.specs.Prelude.{string_bytes};
 ghost use Rattle.std.specs.declared.alloc.Global.{Global};
 ghost use Rattle.resolver.specs.Resolved.{defs_in};
 ghost use Rattle.host_io.specs.Seen.{seen_files};
+ghost use Rattle.codes.specs.declared.code.CodeDef.{CodeDef};
 ghost use Rattle.linking.specs.Linked.{IsLinked};
+ghost use Rattle.linking.specs.Modules.{judgements};
+ghost use Rattle.evidence.specs.Told.{IsUnaligned};
 ghost use Rattle.session.specs.Jobs.{MayDo, MayLeave};
 ghost use Rattle.session.specs.Loaded.{texts_of};
-ghost use Rattle.session.specs.Normals.{Comes, ComesOf, IsNormalText, IsShown, asked_job};
-ghost use Rattle.session.specs.Normals.{normal_path};
+ghost use Rattle.session.specs.Normals.{AreProved, Comes, ComesOf, IsNormalText, IsShown};
+ghost use Rattle.session.specs.Normals.{NormalJob, asked_job, normal_path};
+ghost use Rattle.session.specs.Places.{IsLastNamed};
 ghost use Rattle.session.specs.Counted.{IsCounted};
 ghost use Rattle.session.specs.declared.normal_command.Shown.{Shown};
 
 use crate::found::{Found, derivation_of, found_of};
 use crate::job::{Job, carry_out};
-use crate::others::{Other, other_job, other_of};
-use crate::places::{last_named, refused_at, spent_at};
+use crate::others::{Other, evidence_path, other_job, other_of};
+use crate::places::{body_start, last_named, refusal_at, refused_at, spent_at};
 use crate::program::{Program, read_program};
+use crate::refutals::evidence_of;
 use answering::{Reached, normalise};
 use book::{Book, NodeId};
+use evidence::Evidence;
+use examining::Place;
 use host_io::Files;
 use module_texts::path_of;
 use normality::is_normal_where;
@@ -29,6 +36,7 @@ use resolver::CodeDef;
 use stated_roots::{are_stated, other_side};
 use std::alloc::{AllocError, Global};
 use tree_texts::show;
+use values::Unaligned;
 
 /// What was asked.
 #[derive(Clone, Copy, Debug)]
@@ -56,6 +64,8 @@ enum Normalised {
     Nameless,
     /// The budget was spent on the definition at this place.
     Spent(usize),
+    /// Two types could not be aligned, of the definition at this place.
+    Unaligned(usize, Evidence),
     /// A step was not taken, of the definition at this place.
     NotTaken(usize),
 }
@@ -102,6 +112,21 @@ fn shown_of(
     Ok(Some(Shown { text, bytes }))
 }
 
+/// What comes of the definition at a place, of which two types could not be aligned.
+fn unaligned_at(
+    alloc: Global,
+    book: &mut Book,
+    types: &Unaligned,
+    place: usize,
+) -> Result<Normalised, AllocError>
+    ensures { (defs : List CodeDef) → IfOk result (ComesOf defs place) }
+{
+    match evidence_of(alloc, book, types)? {
+        Some(evidence) => Ok(Normalised::Unaligned(place, evidence)),
+        None => Ok(Normalised::NotTaken(place)),
+    }
+}
+
 /// Normalises the body of the definition of this number, where these nodes conclude what all
 /// definitions state. None where a test fails.
 fn normal_of(
@@ -121,6 +146,7 @@ fn normal_of(
     };
     let equation = match normalise(alloc, book, *body, turns)? {
         Reached::Normal(part) => part.equal,
+        Reached::Unaligned(types) => return Ok(unaligned_at(alloc, book, &types, place)?),
         Reached::Spent => return Ok(Normalised::Spent(place)),
         Reached::NotTaken => return Ok(Normalised::NotTaken(place)),
     };
@@ -183,6 +209,32 @@ fn normal_path(alloc: Global, module_name: &str, name: &str) -> Result<String, A
     Ok(path)
 }
 
+/// To tell that two types could not be aligned, with the evidence stored.
+fn unaligned_job(
+    alloc: Global,
+    program: &Program,
+    module_name: &str,
+    place: usize,
+    evidence: Evidence,
+) -> Result<Job, AllocError>
+    requires linked { IsLinked (texts_of program.now) program.now.codes }
+    requires within { place < length (defs_in program.now.codes) }
+    requires unaligned { IsUnaligned evidence }
+    ensures { (part : List ℕ) (turns : ℕ) → IsLastNamed (texts_of program.now) part (Some place) →
+        AreProved (judgements (texts_of program.now)) → IfOk result
+        (NormalJob module_name.now part turns (texts_of program.now) (defs_in program.now.codes)) }
+{
+    let at = Place {
+        definition: place,
+        at: body_start(program, place),
+    };
+    let refusal = refusal_at(alloc, program, at, Cause::Unaligned)?;
+    let path = evidence_path(alloc, module_name)?;
+    let Evidence { shown, bytes } = evidence;
+    let told = Outcome::Refuted(refusal, shown);
+    Ok(Job::Store { path, bytes, told })
+}
+
 /// What it comes to, of a module that was read, to normalise a definition.
 fn normal_job(alloc: Global, program: &Program, asked: Asked<'_>) -> Result<Job, AllocError>
     requires { IsLinked (texts_of program.now) program.now.codes }
@@ -199,6 +251,9 @@ fn normal_job(alloc: Global, program: &Program, asked: Asked<'_>) -> Result<Job,
             Ok(Job::Tell(refused(Cause::NoSuchName, None, Some(path))))
         }
         Normalised::Spent(place) => { Ok(Job::Tell(spent_at(alloc, program, place, asked.turns)?)) }
+        Normalised::Unaligned(place, evidence) => {
+            Ok(unaligned_job(alloc, program, asked.module_name, place, evidence)?)
+        }
         Normalised::NotTaken(place) => Ok(Job::Tell(refused_at(alloc, program, place)?)),
         Normalised::Shown(Shown { text, bytes }) => {
             let path = normal_path(alloc, asked.module_name, asked.name)?;

@@ -64,7 +64,7 @@ pub(crate) fn other_of(
 }
 
 /// The path of the evidence that a module is refused.
-fn evidence_path(alloc: Global, name: &str) -> Result<String, AllocError>
+pub(crate) fn evidence_path(alloc: Global, name: &str) -> Result<String, AllocError>
     ensures { IfOk result (λ path. string_bytes path ≡ evidence_path name.now) }
 {
     let mut path = String::from_str(alloc, name)?;

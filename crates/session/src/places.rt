@@ -2,6 +2,7 @@
 
 ghost use Rattle.std.specs.Prelude.{◌≡◌, ◌<◌, ◌↔◌, IfOk, IsTrue, Some, length, map};
 ghost use Rattle.std.specs.Prelude.{slice_get, string_bytes};
+ghost use Rattle.codes.specs.declared.code.CodeDef.{CodeDef, out-CodeDef};
 ghost use Rattle.resolver.specs.Resolved.{defs_in};
 ghost use Rattle.module_texts.specs.Texts.{text_of};
 ghost use Rattle.linking.specs.Linked.{IsLinked};
@@ -131,6 +132,15 @@ pub(crate) fn spent_in(
     })
 }
 
+/// The first byte of the body of the definition at this place among those of all modules.
+pub(crate) fn body_start(program: &Program, place: usize) -> u32
+    requires { place < length (defs_in program.now.codes) }
+    ensures { (code : CodeDef) × (slice_get (defs_in program.now.codes) place ≡ Some code)
+        × (result ≡ (span_of (out-CodeDef code).body).start) }
+{
+    span_of(&program.codes.as_slice()[place].body).start
+}
+
 /// Tells that the budget was spent on the body of the definition at this place among those of all
 /// modules.
 pub(crate) fn spent_at(
@@ -144,7 +154,7 @@ pub(crate) fn spent_at(
     ensures { IfOk result
         (IsSpentAt (texts_of program.now) (defs_in program.now.codes) place turns) }
 {
-    let at = span_of(&program.codes.as_slice()[place].body).start;
+    let at = body_start(program, place);
     let path = path_of(alloc, holder(&program.texts, place).name.as_str())?;
     Ok(Outcome::Spent {
         turns,

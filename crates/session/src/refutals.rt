@@ -2,17 +2,18 @@
 
 ghost use Rattle.std.specs.Prelude.{◌≡◌, IfOk, Some};
 ghost use Rattle.evidence.specs.declared.lines.Evidence.{Evidence};
-ghost use Rattle.evidence.specs.Told.{IsTypeShown};
+ghost use Rattle.evidence.specs.Told.{IsTypeShown, IsUnaligned};
 ghost use Rattle.session.specs.Refutals.{IsEvidence, IsRefutal};
 ghost use Rattle.session.specs.declared.refutals.Refutal.{Refutal};
 
 use book::Book;
-use evidence::{Evidence, differing, of_type, of_universe};
+use evidence::{Equated, Evidence, differing, of_type, of_universe, unaligned};
 use examining::{CheckFault, Kind};
 use outcomes::Cause;
 use rows::TermId;
 use std::alloc::{AllocError, Global};
 use theory::Op;
+use values::Unaligned;
 
 /// Why a definition is refused.
 #[derive(Drop)]
@@ -47,6 +48,22 @@ fn shown(cause: Cause, evidence: Option<Evidence>) -> Option<Refutal>
     }
 }
 
+/// The evidence that two types could not be aligned. None where it is not that.
+pub(crate) fn evidence_of(
+    alloc: Global,
+    book: &mut Book,
+    types: &Unaligned,
+) -> Result<Option<Evidence>, AllocError>
+    ensures { IfOk result (λ found. (e : Evidence) → found ≡ Some e → IsUnaligned e) }
+{
+    let nodes = Equated {
+        types: types.types,
+        found: types.trail.left,
+        wanted: types.trail.right,
+    };
+    Ok(unaligned(alloc, book, nodes)?)
+}
+
 /// What is told of a refusal, once its evidence is tested. None where it is not that.
 pub(crate) fn refutal_of(
     alloc: Global,
@@ -72,6 +89,9 @@ pub(crate) fn refutal_of(
             let face = Some(TermId(*face));
             let evidence = differing(alloc, book, face, trail.left, trail.right)?;
             Ok(shown(Cause::SidesDiffer, evidence))
+        }
+        CheckFault::Unaligned(types) => {
+            Ok(shown(Cause::Unaligned, evidence_of(alloc, book, types)?))
         }
     }
 }

@@ -10,7 +10,7 @@ ghost use Rattle.session.specs.Places.{span_of};
 
 use crate::normal_command::normal_text;
 use crate::places::span_of;
-use crate::refutals::{Refutal, refutal_of};
+use crate::refutals::{Refutal, evidence_of, refutal_of};
 use answering::{Reached, normalise};
 use book::{Book, NodeId};
 use codes::{Code, CodeDef};
@@ -19,6 +19,7 @@ use examining::{CheckFault, ExaminedTerm, examine_term};
 use outcomes::{Cause, Outcome, Refusal, refused};
 use stated_roots::types_term;
 use std::alloc::{AllocError, Global};
+use values::Unaligned;
 
 /// Tells of a refusal at a byte, with what shows it.
 fn told_with(cause: Cause, at: u32, evidence: Evidence) -> Outcome
@@ -71,6 +72,22 @@ impl Asked<'_> {
         }
     }
 
+    /// Tells that two types could not be aligned, once the evidence is tested.
+    fn unaligned(
+        &self,
+        alloc: Global,
+        book: &mut Book,
+        types: &Unaligned,
+    ) -> Result<Outcome, AllocError>
+        ensures { (t : Tree) → IfOk result
+            (TellsTerm self.now.turns (span_of self.now.code.now).start t) }
+    {
+        match evidence_of(alloc, book, types)? {
+            Some(evidence) => Ok(told_with(Cause::Unaligned, self.start(), evidence)),
+            None => Ok(self.not_taken()),
+        }
+    }
+
     /// The normal form of the term, which a node types, in print.
     fn normal(&self, alloc: Global, book: &mut Book, node: NodeId) -> Result<Outcome, AllocError>
         ensures { let asked = self.now in
@@ -79,6 +96,7 @@ impl Asked<'_> {
     {
         let equation = match normalise(alloc, book, node, self.turns)? {
             Reached::Normal(part) => part.equal,
+            Reached::Unaligned(types) => return Ok(self.unaligned(alloc, book, &types)?),
             Reached::Spent => return Ok(self.spent(self.start())),
             Reached::NotTaken => return Ok(self.not_taken()),
         };

@@ -16,7 +16,7 @@ mod ways;
 
 pub use answers::{Answers, Kept};
 pub use goals::{Goal, aligned, begin, equal_at_own, finished, rebuilt};
-pub use questions::{Part, Question, Reply, Step, Trail};
+pub use questions::{Part, Question, Reply, Step, Trail, Unaligned};
 pub use substitutions::{composed, identity, is_identity, past};
 pub use susp::{Susp, suspend, term_under};
 pub use ways::{Way, advance, fits_joined, fits_under, follow};

@@ -50,6 +50,14 @@ pub struct Trail {
     pub steps: Vec<Step>,
 }
 
+/// Two types that are equal while their normal forms differ, where a term of the one is taken apart
+/// as one of the other: `H >> B = A`, and where the normal forms of B and A differ.
+#[derive(Drop, Debug)]
+pub struct Unaligned {
+    pub types: NodeId,
+    pub trail: Trail,
+}
+
 /// A reply.
 #[derive(Drop, Debug)]
 pub enum Reply {
@@ -59,4 +67,6 @@ pub enum Reply {
     /// `H >> A = B`, or `H >> a = b : A`.
     Equal(NodeId),
     Differ(Trail),
+    /// None of these: two types could not be aligned.
+    Unaligned(Unaligned),
 }

@@ -1,6 +1,6 @@
-use Rattle.std.proofs.Common.{◌≡◌, ◌+◌, ◌∙◌, ◌↔◌, ◌++◌, ◌∷◌, [], ap, arith, subst, sym, IsTrue}
+use Rattle.std.proofs.Common.{◌≡◌, ◌+◌, ◌∙◌, ◌↔◌, ap, arith, subst, sym, IsTrue}
 use Rattle.side_conditions.specs.Contexts.{context_of}
-use Rattle.book.specs.Shown.{Extends, book_means}
+use Rattle.book.specs.Shown.{book_means}
 use Rattle.evidence.specs.Contexts.{IsFixed}
 use Rattle.evidence.proofs.FixedLaws.{FixesBelow, fixes_all, fixes_more, fixes_same}
 use Rattle.evidence.proofs.GrowthLaws.{further, same_context}

@@ -1,6 +1,5 @@
 use Rattle.side_conditions.specs.Contexts.{context_of}
 use Rattle.book.specs.Shown.{Extends, book_means}
-use Rattle.rows.specs.Views.{IsContext}
 use Rattle.evidence.proofs.FixedLaws.{FixesBelow}
 use Rattle.evidence.proofs.contexts.fixed_names.Given as goal
 

@@ -1,4 +1,4 @@
-use Rattle.std.proofs.Common.{◌≡◌, refl, ap, subst, sym}
+use Rattle.std.proofs.Common.{◌≡◌, subst}
 use Rattle.rows.specs.declared.views.TermId.{TermId}
 use Rattle.side_conditions.specs.Contexts.{context_of}
 use Rattle.book.specs.Shown.{book_means}

@@ -7,7 +7,7 @@ use Rattle.session.specs.Normals.{AreProved, Comes, IsNormalised, nameless, spen
 use Rattle.session.specs.Places.{IsLastNamed}
 use Rattle.session.proofs.NormalLaws.{last_is, named_inside, of_other}
 use Rattle.session.proofs.normal_command.normal_job.Goals as goal
-use Rattle.session.proofs.normal_command.normal_job.Goals.{In-Spent, In-NotTaken, In_ok-other}
+use Rattle.session.proofs.normal_command.normal_job.Goals.{In-Spent, In-NotTaken, In_ok-other, After-unaligned_job-arg-1}
 
 -- what came, of the definitions of the program
 came : (c : In_ok-other) → Comes (defs_in c.args.program.now.codes) c.in_ok-named.named c.in_ok-other.field-0
@@ -27,6 +27,25 @@ not_taken_is : (c : In-NotTaken) → AreProved (judgements_of (stated_by (defs_i
 not_taken_is c =
     let it = subst (Comes (defs_in c.args.program.now.codes) c.in_ok-named.named) c.in-NotTaken.is (came ((goal.at.refused_at-requires-clause-within c).In_ok-other)) in
     (it.0, last_is (texts_of c.args.program.now) c.args.asked.name.now c.in_ok-named.named it.1.0 c.in-NotTaken.place c.in_ok-named.ensures it.1.1 it.1.2)
+
+unaligned_is : (c : After-unaligned_job-arg-1) → AreProved (judgements_of (stated_by (defs_in c.args.program.now.codes))) × IsLastNamed (texts_of c.args.program.now) c.args.asked.name.now (Some c.in-Unaligned.place)
+unaligned_is c =
+    let it = subst (Comes (defs_in c.args.program.now.codes) c.in_ok-named.named) c.in-Unaligned.is (came ((goal.at.unaligned_job-requires-clause-within c).In_ok-other)) in
+    (it.0, last_is (texts_of c.args.program.now) c.args.asked.name.now c.in_ok-named.named it.1.0 c.in-Unaligned.place c.in_ok-named.ensures it.1.1 it.1.2.0)
+
+pub unaligned_job-requires-clause-within : goal.unaligned_job-requires-clause-within
+unaligned_job-requires-clause-within c =
+    named_inside (texts_of c.args.program.now) c.args.program.now.codes c.requires c.args.asked.name.now (Some c.in-Unaligned.place) (unaligned_is c).1 c.in-Unaligned.place refl
+
+pub unaligned_job-requires-clause-unaligned : goal.unaligned_job-requires-clause-unaligned
+unaligned_job-requires-clause-unaligned c =
+    let it = subst (Comes (defs_in c.args.program.now.codes) c.in_ok-named.named) c.in-Unaligned.is (came ((goal.at.unaligned_job-requires-clause-unaligned c).In_ok-other)) in
+    it.1.2.1
+
+pub returns-in_ok-unaligned_job-in-Unaligned : goal.returns-in_ok-unaligned_job-in-Unaligned
+returns-in_ok-unaligned_job-in-Unaligned c =
+    let it = unaligned_is ((goal.at.returns-in_ok-unaligned_job-in-Unaligned c).After-unaligned_job-arg-1) in
+    c.in_ok-unaligned_job-in-Unaligned.ensures c.args.asked.name.now c.args.asked.turns it.1 (subst AreProved c.requires.judgements_are it.0)
 
 pub spent_at-requires-clause-within : goal.spent_at-requires-clause-within
 spent_at-requires-clause-within c =

@@ -7,6 +7,9 @@ use Rattle.session.proofs.PlaceLaws.{get_read}
 use Rattle.session.proofs.NormalLaws.{normalises}
 use Rattle.session.proofs.normal_command.normal_of.Goals as goal
 
+pub returns-in-Unaligned : goal.returns-in-Unaligned
+returns-in-Unaligned c = c.in_ok-unaligned_at-in-Unaligned.ensures c.args.defs.now
+
 pub returns-in-Some-2 : goal.returns-in-Some-2
 returns-in-Some-2 c =
     let d = c.index-defs-place.result in

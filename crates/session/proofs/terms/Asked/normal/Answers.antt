@@ -7,6 +7,9 @@ use Rattle.session.proofs.terms.Asked.normal.Goals as goal
 pub returns-in-Spent : goal.returns-in-Spent
 returns-in-Spent c = spent c.start.result c.spent.ensures
 
+pub returns-in-Unaligned : goal.returns-in-Unaligned
+returns-in-Unaligned c = c.in_ok-unaligned-in-Unaligned.ensures (term_after c.args.self.now.defs.now c.args.self.now.code.now)
+
 pub returns-in-Some : goal.returns-in-Some
 returns-in-Some c =
     let t = term_after c.args.self.now.defs.now c.args.self.now.code.now in
