@@ -4,7 +4,7 @@
 use book::{Book, NodeId};
 use evaluate::{HeadState, HeadStep, step_head};
 use evidence::{Equated, unaligned};
-use examining::{Examined, examine_definitions};
+use examining::{Examined, Root, examine_definitions};
 use grammar::read;
 use layout_lexer::tokens;
 use resolver::{Codes, Scope, ScopeNames, resolve};
@@ -40,7 +40,7 @@ fn codes_of(alloc: Global) -> Result<Option<Codes>, AllocError> {
 }
 
 /// The body of the last definition of the text, and its type.
-fn typed(alloc: Global, book: &mut Book) -> Result<Option<[NodeId; 2]>, AllocError> {
+fn typed(alloc: Global, book: &mut Book) -> Result<Option<Root>, AllocError> {
     let Some(codes) = codes_of(alloc)? else {
         return Ok(None);
     };
@@ -48,7 +48,7 @@ fn typed(alloc: Global, book: &mut Book) -> Result<Option<[NodeId; 2]>, AllocErr
         return Ok(None);
     };
     match roots.as_slice() {
-        [.., last] => Ok(Some([last.body, last.ty])),
+        [.., last] => Ok(Some(*last)),
         [] => Ok(None),
     }
 }
@@ -81,25 +81,26 @@ fn misled(
     Ok(None)
 }
 
-/// Whether the types that it tells are two trees that are equal, by the trail that it was told.
-fn is_told(book: &Book, types: &Unaligned, trail: [NodeId; 2]) -> Result<bool, Fault> {
-    let are_types = match claim_of(book, types.types)? {
-        Claim::TyEq(..) => !same_sides(book, types.types)?,
-        _ => false,
-    };
-    Ok(are_types && [types.trail.left, types.trail.right] == trail)
+/// Whether a node concludes that two types are equal that are two trees.
+fn are_two_types(book: &Book, equation: NodeId) -> Result<bool, Fault> {
+    match claim_of(book, equation)? {
+        Claim::TyEq(..) => Ok(!same_sides(book, equation)?),
+        _ => Ok(false),
+    }
 }
 
-/// The types that could not be aligned, and whether they are those of the text.
-fn told(alloc: Global, book: &mut Book) -> Result<Option<(Unaligned, bool)>, Fault> {
-    let Some([body, ty]) = typed(alloc, book)? else {
+/// The equation of two types that could not be aligned, and whether they are two, and differ by the
+/// trail that was told.
+fn told(alloc: Global, book: &mut Book) -> Result<Option<(NodeId, bool)>, Fault> {
+    let Some(root) = typed(alloc, book)? else {
         return Ok(None);
     };
-    let Some(types) = misled(alloc, book, body, [body, ty])? else {
+    let Some(found) = misled(alloc, book, root.body, [root.body, root.ty])? else {
         return Ok(None);
     };
-    let is_told = is_told(book, &types, [body, ty])?;
-    Ok(Some((types, is_told)))
+    let is_told = found.trail.left == root.body && found.trail.right == root.ty;
+    let are_two = are_two_types(book, found.types)?;
+    Ok(Some((found.types, is_told && are_two)))
 }
 
 #[test]
@@ -112,9 +113,9 @@ fn types_that_are_said_to_differ_are_told(rt: HostRuntime) -> Result<(), Fail> {
     assert!(&rt; is_told);
     // the two are one in normal form, so there is no evidence
     let nodes = Equated {
-        types: types.types,
-        found: types.types,
-        wanted: types.types,
+        types,
+        found: types,
+        wanted: types,
     };
     let evidence = unaligned(alloc, &mut book, nodes)?;
     assert!(&rt; evidence.is_none());
