@@ -68,8 +68,8 @@ impl Run {
     }
 
     /// Makes one move: a step of the state, a question that it asks, or a reply handed to the state
-    /// that waits for it. A reply is kept. Where two types could not be aligned, what waits has that
-    /// reply too.
+    /// that waits for it. A reply is kept. That two types could not be aligned is the reply to all
+    /// that waits.
     fn moved(self, alloc: Global, book: &mut Book, answers: &mut Answers) -> Result<Next, Fault>
         requires { self.moves + 1 < 2 ^ 64 }
         ensures { IfOk result (λ next. CountsOne self next) }
