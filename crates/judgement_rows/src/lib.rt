@@ -1,5 +1,5 @@
-//! The judgements that resolved definitions spell, and what a code spells in their scope, as rows of
-//! any maker.
+//! The judgements that resolved definitions spell, and what a code spells in their scope, as rows
+//! of any maker.
 //!
 //! ```text
 //! id (A : U) (x : A) : A = x
