@@ -10,7 +10,7 @@ ghost use Rattle.evidence.specs.declared.aligned.TypesEquation.{TypesEquation};
 ghost use Rattle.evidence.specs.declared.lines.Evidence.{Evidence};
 
 use crate::lines::{Evidence, same_context, shown_two, two_sides, with_file};
-use crate::sides::{Place, place_of, right_side};
+use crate::sides::{Place, place_of_equation};
 use book::{Book, NodeId};
 use rows::{CtxId, TermId};
 use std::alloc::{AllocError, Global};
@@ -114,10 +114,7 @@ pub fn unaligned(
 ) -> Result<Option<Evidence>, AllocError>
     ensures { IfOk result (λ told. (e : Evidence) → told ≡ Some e → IsUnaligned e) }
 {
-    let Some(side) = right_side(book, nodes.found) else {
-        return Ok(None);
-    };
-    match place_of(alloc, book, side.ctx)? {
+    match place_of_equation(alloc, book, nodes.found)? {
         Some(place) => Ok(unaligned_at(alloc, book, &place, nodes)?),
         None => Ok(None),
     }

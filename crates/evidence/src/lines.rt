@@ -18,7 +18,7 @@ ghost use Rattle.evidence.specs.declared.texts.Shown.{Shown};
 
 use crate::face_texts::face_text;
 use crate::openings::begins_with;
-use crate::sides::{Place, Sort, is_normal_at, place_of, right_side, text_at};
+use crate::sides::{Place, Sort, is_normal_at, place_of_equation, right_side, text_at};
 use crate::texts::Shown;
 use book::{Book, NodeId};
 use book_writer::write;
@@ -133,10 +133,7 @@ pub fn of_universe(
 ) -> Result<Option<Evidence>, AllocError>
     ensures { IfOk result (λ found. (e : Evidence) → found ≡ Some e → IsUniverse e) }
 {
-    let Some(side) = right_side(book, equation) else {
-        return Ok(None);
-    };
-    match place_of(alloc, book, side.ctx)? {
+    match place_of_equation(alloc, book, equation)? {
         Some(place) => Ok(universe_at(alloc, book, &place, equation)?),
         None => Ok(None),
     }
@@ -155,10 +152,7 @@ pub fn of_type(
 ) -> Result<Option<Evidence>, AllocError>
     ensures { IfOk result (λ found. (e : Evidence) → found ≡ Some e → IsTypeShown unwanted e) }
 {
-    let Some(side) = right_side(book, equation) else {
-        return Ok(None);
-    };
-    match place_of(alloc, book, side.ctx)? {
+    match place_of_equation(alloc, book, equation)? {
         Some(place) => Ok(type_at(alloc, book, &place, unwanted, equation)?),
         None => Ok(None),
     }
@@ -295,10 +289,7 @@ pub fn differing(
 ) -> Result<Option<Evidence>, AllocError>
     ensures { IfOk result (λ told. (e : Evidence) → told ≡ Some e → AreShown face e) }
 {
-    let Some(side) = right_side(book, found) else {
-        return Ok(None);
-    };
-    match place_of(alloc, book, side.ctx)? {
+    match place_of_equation(alloc, book, found)? {
         Some(place) => Ok(two_at(alloc, book, &place, face, [found, wanted])?),
         None => Ok(None),
     }

@@ -66,11 +66,7 @@ pub(crate) fn right_side(book: &Book, equation: NodeId) -> Option<Side>
 }
 
 /// A context as a place, if its faces are true together somewhere.
-pub(crate) fn place_of(
-    alloc: Global,
-    book: &mut Book,
-    ctx: CtxId,
-) -> Result<Option<Place>, AllocError>
+fn place_of(alloc: Global, book: &mut Book, ctx: CtxId) -> Result<Option<Place>, AllocError>
     requires { IsContext (book_means book.old ctx.0) }
     ensures extends { Extends book.old book.new }
     ensures place { IfOk result (λ found. (p : Place) → found ≡ Some p →
@@ -85,6 +81,24 @@ pub(crate) fn place_of(
     }
     let fixed = fixed_names(alloc, book, ctx, level)?;
     Ok(Some(Place { ctx, level, fixed }))
+}
+
+/// The place of an equation, of a node that concludes one, if the faces of its context are true
+/// together somewhere.
+pub(crate) fn place_of_equation(
+    alloc: Global,
+    book: &mut Book,
+    equation: NodeId,
+) -> Result<Option<Place>, AllocError>
+    ensures context { IfOk result (λ found. (p : Place) → found ≡ Some p →
+        IsContext (book_means book.new p.ctx.0)) }
+    ensures place { IfOk result (λ found. (p : Place) → found ≡ Some p →
+        IsPlace (context_of (book_means book.new p.ctx.0)) p) }
+{
+    match right_side(book, equation) {
+        Some(side) => Ok(place_of(alloc, book, side.ctx)?),
+        None => Ok(None),
+    }
 }
 
 /// Whether a tree is normal at a place.
